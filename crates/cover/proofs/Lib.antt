@@ -1,0 +1,22 @@
+-- The laws of covering, for this crate's proofs and for the crates above.
+pub mod Lists
+pub mod Terms
+pub mod Preorder
+pub mod Decides
+pub mod First
+pub mod Form
+pub mod Same
+pub mod Bytes
+pub mod Maps
+pub mod Steps
+pub mod Answers
+pub mod RoundTrip
+pub mod Padded
+pub mod Leftward
+pub mod Fitting
+pub mod Renaming
+pub mod AtomBytes
+pub mod Passing
+pub mod Growing
+pub mod Wider
+pub mod Determined

@@ -1,0 +1,127 @@
+-- Laws of the map as the code holds it: one more variable placed is one more byte stored. Assumes nothing.
+use mathlib.Core.Path.{_≡_, refl, sym, _∙_, ap, fun-ext}
+use mathlib.Core.Bool.{Bool, true, false, cond}
+use mathlib.Core.Logic.{_⊎_, inl, inr}
+use mathlib.Core.List.{List, _∷_}
+use mathlib.Core.Option.{Option, none, some}
+use Prim.Native.Nat.{ℕ, zero, suc, _+_, _-_, _≤_, _<_}
+use native.Mathlib.Omega.{arith}
+use borrow.Author.Tests.{eqb-true, eqb-false, eq-eqb, ne-eqb}
+use lib.Dec.{eqb}
+use lib.ListN.{length, getD, set, replicate}
+use lib.Seq.{getD-set-same, getD-set-other}
+use Rattle.cover.specs.declared.Placed.{Placed}
+use Rattle.cover.specs.Lists.{isSome}
+use Rattle.cover.specs.Search.{Part, nowhere, also, placeTerm, placeTerms, placeAtom}
+use Rattle.cover.specs.Record.{Layout, termOf, argsAt, atomAt}
+use Rattle.cover.specs.Held.{partOf, said}
+use Rattle.cover.proofs.Lists.{either}
+use Rattle.cover.proofs.Bytes.{term-same, term-var, term-con, args-more, args-end}
+
+pub said-yes : (p : Placed) → p .ok ≡ true → said p ≡ some (partOf (p .map))
+unfolding said
+said-yes p e = rw e
+
+pub said-no : (p : Placed) → p .ok ≡ false → said p ≡ none
+unfolding said
+said-no p e = rw e
+
+-- a byte of the map, whatever stands past its end
+getD-default : (m : List ℕ) (n d e : ℕ) → n < length m → getD m n d ≡ getD m n e
+getD-default (x ∷ m) zero d e h = refl
+getD-default (x ∷ m) (suc n) d e h = getD-default m n d e (omega arith)
+
+pub part-none : (m : List ℕ) (n : ℕ) → n < length m → getD m n 0 ≡ 255 → partOf m n ≡ none
+unfolding partOf
+part-none m n h e = rw (eq-eqb (getD m n 255) 255 (getD-default m n 255 0 h ∙ e))
+
+pub part-some : (m : List ℕ) (n : ℕ) → n < length m → (getD m n 0 ≡ 255 → ⊥) → partOf m n ≡ some (termOf (getD m n 0))
+unfolding partOf
+part-some m n h f = rw (getD-default m n 255 0 h, ne-eqb (getD m n 0) 255 f)
+
+pub part-also : (m : List ℕ) (t u : ℕ) → t < length m → (u ≡ 255 → ⊥)
+    → partOf (set m t u) ≡ also (partOf m) t (termOf u)
+unfolding partOf
+part-also m t u h f = fun-ext (λ n. go n (either (eqb t n)))
+  where
+    go : (n : ℕ) → (eqb t n ≡ true) ⊎ (eqb t n ≡ false) → partOf (set m t u) n ≡ also (partOf m) t (termOf u) n
+    go n (inl e) = rw (e, ← eqb-true t n e, getD-set-same m t u 255 h, ne-eqb u 255 f)
+    go n (inr e) = rw (e, getD-set-other m t n u 255 (λ q. eqb-false t n e (sym q)))
+
+-- no variable is placed yet
+pub part-nowhere : (n : ℕ) → partOf (replicate n 255) ≡ nowhere
+unfolding partOf
+part-nowhere n = fun-ext (λ i. rw (eq-eqb (getD (replicate n 255) i 255) 255 (all-free n i)))
+  where
+    all-free : (n i : ℕ) → getD {A = ℕ} (replicate n 255) i 255 ≡ 255
+    all-free zero i = refl
+    all-free (suc n) zero = refl
+    all-free (suc n) (suc i) = all-free n i
+
+-- the ways of one term
+module _ (m : List ℕ) (t u : ℕ) where
+  pub place-new : t < length m → t < 128 → (u ≡ 255 → ⊥) → getD m t 0 ≡ 255
+      → placeTerm (partOf m) (termOf t) (termOf u) ≡ some (partOf (set m t u))
+  place-new h v f e = rw (term-var t v, part-none m t h e, ← part-also m t u h f)
+
+  pub place-old : t < length m → t < 128 → (getD m t 0 ≡ 255 → ⊥)
+      → placeTerm (partOf m) (termOf t) (termOf u) ≡ cond (eqb (getD m t 0) u) (some (partOf m)) none
+  place-old h v f = rw (term-var t v, part-some m t h f, term-same (getD m t 0) u)
+
+  pub place-constant : 128 ≤ t → placeTerm (partOf m) (termOf t) (termOf u) ≡ cond (eqb t u) (some (partOf m)) none
+  place-constant h = rw (term-con t h) (rw (← term-con t h, term-same t u))
+
+-- no place is left
+pub places-done : (F S : List ℕ) (i k w : ℕ) (p : Part) → w ≡ 0 → placeTerms p (argsAt F i w) (argsAt S k w) ≡ some p
+unfolding argsAt
+places-done F S i k w p e = rw (e, argsAt)
+
+-- the ways of the places, of which j of w are passed
+module _ (F S : List ℕ) (i k j w : ℕ) (lt : j < w) where
+  abbrev here : Part → Option Part
+  here p = placeTerms p (argsAt F (i + j) (w - j)) (argsAt S (k + j) (w - j))
+
+  -- the first's places end: so must the second's
+  pub places-end : (p : Part) → getD F (i + j) 0 ≡ 255 → here p ≡ cond (eqb (getD S (k + j) 0) 255) (some p) none
+  places-end p e = go (either (eqb (getD S (k + j) 0) 255))
+    where
+      go : (eqb (getD S (k + j) 0) 255 ≡ true) ⊎ (eqb (getD S (k + j) 0) 255 ≡ false)
+          → here p ≡ cond (eqb (getD S (k + j) 0) 255) (some p) none
+      go (inl f) = rw (args-end F i j w lt e, args-end S k j w lt (eqb-true _ _ f), f)
+      go (inr f) = rw (args-end F i j w lt e, args-more S k j w lt (eqb-false _ _ f), f)
+
+  -- the second's places end first
+  pub places-short : (p : Part) → (getD F (i + j) 0 ≡ 255 → ⊥) → getD S (k + j) 0 ≡ 255 → here p ≡ none
+  places-short p used free = rw (args-more F i j w lt used, args-end S k j w lt free)
+
+  module _ (p : Part) (used : getD F (i + j) 0 ≡ 255 → ⊥) (used′ : getD S (k + j) 0 ≡ 255 → ⊥) where
+    abbrev step : Option Part
+    step = placeTerm p (termOf (getD F (i + j) 0)) (termOf (getD S (k + j) 0))
+
+    pub places-clash : step ≡ none → here p ≡ none
+    places-clash e = rw (args-more F i j w lt used, args-more S k j w lt used′, e)
+
+    pub places-next : {q : Part} → step ≡ some q
+        → here p ≡ placeTerms q (argsAt F (i + (j + 1)) (w - (j + 1))) (argsAt S (k + (j + 1)) (w - (j + 1)))
+    places-next e = rw (args-more F i j w lt used, args-more S k j w lt used′, e)
+
+-- the ways of an atom
+module _ (L : Layout) (F S : List ℕ) (i k : ℕ) (p : Part) where
+  pub atoms-apart : (getD F i 0 ≡ getD S k 0 → ⊥) → placeAtom p (atomAt L F i) (atomAt L S k) ≡ none
+  unfolding atomAt
+  atoms-apart ne = rw (ne-eqb (getD F i 0) (getD S k 0) ne)
+
+  pub atoms-meet : getD F i 0 ≡ getD S k 0
+      → placeAtom p (atomAt L F i) (atomAt L S k)
+      ≡ placeTerms p (argsAt F (i + 1) (L .places)) (argsAt S (k + 1) (L .places))
+  unfolding atomAt
+  atoms-meet e = rw (eq-eqb (getD F i 0) (getD S k 0) e)
+
+-- the yes of an answer
+pub said-ok : (r : Placed) (o : Option Part) → said r ≡ o → r .ok ≡ isSome o
+unfolding said
+said-ok r o e = go (r .ok) e
+  where
+    go : (b : Bool) → cond b (some (partOf (r .map))) none ≡ o → b ≡ isSome o
+    go true q = ap isSome q
+    go false q = ap isSome q

@@ -1,0 +1,131 @@
+-- Laws of the search over atoms that stand one after the other in bytes: one for each way through the code.
+-- Assumes nothing.
+use mathlib.Core.Path.{_≡_, refl, subst}
+use mathlib.Core.Bool.{Bool, true, false}
+use mathlib.Core.List.{List, [], _∷_}
+use mathlib.Core.Option.{Option, none, some}
+use Prim.Native.Nat.{ℕ, suc, _+_, _-_, _<_}
+use native.Mathlib.Omega.{arith}
+use lib.Dec.{T}
+use lib.ListN.{getD, replicate}
+use Rattle.cover.specs.Lists.{all, isSome, bind}
+use Rattle.cover.specs.Term.{Atom, Question}
+use Rattle.cover.specs.Search.{Part, placeAtom, findMap, tried, coversOn}
+use Rattle.cover.specs.Record.{Layout, size, atomAt, atomsAt, isAtom, areAtoms, questionOf, Sound}
+use Rattle.cover.specs.Held.{partOf, AtomsIn, hasCandidate}
+use Rattle.cover.proofs.Lists.{fst-of, snd-of}
+use Rattle.cover.proofs.Bytes.{suc-sub-one}
+use Rattle.cover.proofs.Maps.{part-nowhere}
+
+module _ (L : Layout) (B : List ℕ) (i : ℕ) where
+  pub atoms-none : (n : ℕ) → n ≡ 0 → atomsAt L B i n ≡ []
+  unfolding atomsAt
+  atoms-none n e = rw (e, atomsAt)
+
+  pub atoms-more : (n : ℕ) → 0 < n → atomsAt L B i n ≡ atomAt L B i ∷ atomsAt L B (i + size L) (n - 1)
+  unfolding atomsAt
+  atoms-more (suc n) h = rw suc-sub-one
+
+  pub sound-more : (n : ℕ) → 0 < n → T (areAtoms L B i n) → T (isAtom L B i) × T (areAtoms L B (i + size L) (n - 1))
+  unfolding areAtoms
+  sound-more (suc n) h t = (
+    fst-of (isAtom L B i) (areAtoms L B (i + size L) n) t,
+    rw suc-sub-one (snd-of (isAtom L B i) (areAtoms L B (i + size L) n) t),
+  )
+
+-- the next atom is tried on all candidates
+module _ (L : Layout) (F : List ℕ) (i left : ℕ) (B : Question) (p : Part) where
+  pub search-done : left ≡ 0 → findMap (atomsAt L F i left) B p ≡ some p
+  unfolding findMap
+  search-done e = rw (atoms-none L F i left e)
+
+  pub search-next : 0 < left
+      → findMap (atomsAt L F i left) B p ≡ tried (atomAt L F i) (atomsAt L F (i + size L) (left - 1)) B B p
+  unfolding findMap tried
+  search-next h = rw (atoms-more L F i left h)
+
+-- the next candidate is hit, or passed over
+module _ (L : Layout) (a : Atom) (A B : Question) (S : List ℕ) (k more : ℕ) (p : Part) where
+  pub tried-none : more ≡ 0 → tried a A B (atomsAt L S k more) p ≡ none
+  unfolding tried
+  tried-none e = rw (atoms-none L S k more e)
+
+  abbrev pub here : Option Part
+  here = bind (placeAtom p a (atomAt L S k)) (findMap A B)
+
+  pub tried-hit : {q : Part} → 0 < more → here ≡ some q → tried a A B (atomsAt L S k more) p ≡ some q
+  unfolding tried
+  tried-hit h e = rw (atoms-more L S k more h, e)
+
+  pub tried-miss : 0 < more → here ≡ none
+      → tried a A B (atomsAt L S k more) p ≡ tried a A B (atomsAt L S (k + size L) (more - 1)) p
+  unfolding tried
+  tried-miss h e = rw (atoms-more L S k more h, e)
+
+pub then-placed : {o : Option Part} {q : Part} (k : Part → Option Part) → o ≡ some q → bind o k ≡ k q
+then-placed k e = rw e
+
+pub then-not : {o : Option Part} (k : Part → Option Part) → o ≡ none → bind o k ≡ none
+then-not k e = rw e
+
+-- the look-ahead, a candidate and an atom at a time
+module _ (L : Layout) (S : List ℕ) (k more : ℕ) (p : Part) (a : Atom) where
+  pub candidate-none : more ≡ 0 → hasCandidate p (atomsAt L S k more) a ≡ false
+  unfolding hasCandidate
+  candidate-none e = rw (atoms-none L S k more e)
+
+  pub candidate-hit : {q : Part} → 0 < more → placeAtom p a (atomAt L S k) ≡ some q
+      → hasCandidate p (atomsAt L S k more) a ≡ true
+  unfolding hasCandidate
+  candidate-hit h e = rw (atoms-more L S k more h, e)
+
+  pub candidate-miss : 0 < more → placeAtom p a (atomAt L S k) ≡ none
+      → hasCandidate p (atomsAt L S k more) a ≡ hasCandidate p (atomsAt L S (k + size L) (more - 1)) a
+  unfolding hasCandidate
+  candidate-miss h e = rw (atoms-more L S k more h, e)
+
+module _ (L : Layout) (F : List ℕ) (i left : ℕ) (f : Atom → Bool) where
+  pub each-none : left ≡ 0 → all f (atomsAt L F i left) ≡ true
+  each-none e = rw (atoms-none L F i left e)
+
+  pub each-fails : 0 < left → f (atomAt L F i) ≡ false → all f (atomsAt L F i left) ≡ false
+  each-fails h e = rw (atoms-more L F i left h, e)
+
+  pub each-passes : 0 < left → f (atomAt L F i) ≡ true
+      → all f (atomsAt L F i left) ≡ all f (atomsAt L F (i + size L) (left - 1))
+  each-passes h e = rw (atoms-more L F i left h, e)
+
+-- sound atoms, the first of them taken
+pub in-first : (L : Layout) (B : List ℕ) (i n : ℕ) → AtomsIn L B i n → 0 < n → AtomsIn L B i (n - 1 + 1)
+in-first L B i n a h = rw back a
+  where
+    back : n - 1 + 1 ≡ n
+    back = omega arith
+
+pub in-rest : (L : Layout) (B : List ℕ) (i n : ℕ) → AtomsIn L B i (n + 1)
+    → T (isAtom L B i) × AtomsIn L B (i + size L) n
+in-rest L B i n a =
+    let s = sound-more L B i (n + 1) (omega arith) (a .sound) in
+    (s .0, record { fits = omega (arith, a .fits); sound = subst (λ m. T (areAtoms L B (i + size L) m)) back (s .1) })
+  where
+    back : n + 1 - 1 ≡ n
+    back = omega arith
+
+pub sound-in : (L : Layout) (B : List ℕ) → Sound L B → AtomsIn L B 1 (getD B 0 0)
+sound-in L B s = record { fits = s .fits; sound = s .atoms }
+
+-- the first atom on one candidate, with no variable placed
+pub on-candidate : (L : Layout) (F S : List ℕ) (k n : ℕ) → 0 < getD F 0 0
+    → isSome
+    (tried
+    (atomAt L F 1)
+    (atomsAt L F (1 + size L) (getD F 0 0 - 1))
+    (questionOf L S)
+    (atomsAt L S k 1)
+    (partOf (replicate n 255)))
+    ≡ coversOn (questionOf L F) (questionOf L S) (atomAt L S k)
+unfolding coversOn questionOf tried
+on-candidate L F S k n h =
+    let all = atoms-more L F 1 (getD F 0 0) h in
+    let one = atoms-more L S k 1 (omega arith) in
+    rw (all, one, atoms-none L S (k + size L) (1 - 1) refl, part-nowhere n)

@@ -1,0 +1,59 @@
+-- `cover::desk::covers` meets its contract: the first record is judged, then the second, then the search decides.
+use borrow.Author.Needs.{needs}
+use mathlib.Core.Path.{_≡_, sym, _∙_}
+use mathlib.Core.Bool.{true}
+use borrow.Author.Tests.{not-true, not-false}
+use Rattle.cover.specs.Record.{desk, isRecord}
+use Rattle.cover.proofs.Lists.{true→T}
+use Rattle.cover.proofs.Bytes.{record-sound}
+use Rattle.cover.proofs.Answers.{answer-2, answer-3, answer-covers}
+use Rattle.cover.proofs.desk.covers.Statement.{statement}
+use Rattle.cover.proofs.desk.covers.Tie as tie
+
+-- where both tests are passed
+first-is : (c : tie.Else2) → isRecord desk (c .before .before .before .before .before .before .args .first .now) ≡ true
+first-is c = sym (c .before .before .before .is-record .ensures) ∙ not-false _ (c .before .before .if1 .left)
+
+second-is : (c : tie.Else2) → isRecord desk (c .before .before .before .before .before .before .args .second .now) ≡ true
+second-is c = sym (c .before .is-record2 .ensures) ∙ not-false _ (c .if2 .left)
+
+is-record-requires : tie.Need-is-record-requires
+is-record-requires c κs = search needs
+
+returns : tie.Need-returns
+returns c = sym (answer-2 desk _ _ (sym (c .before .is-record .ensures) ∙ not-true _ (c .if1 .taken)))
+
+is-record-requires-2 : tie.Need-is-record-requires-2
+is-record-requires-2 c κs = search needs
+
+returns-2 : tie.Need-returns-2
+returns-2 c =
+    sym
+    (answer-3 desk _ _
+    (sym (c .before .before .before .is-record .ensures) ∙ not-false _ (c .before .before .if1 .left))
+    (sym (c .before .is-record2 .ensures) ∙ not-true _ (c .if2 .taken)))
+
+covers-sound-requires : tie.Need-covers-sound-requires
+covers-sound-requires c κs = (record-sound desk _ (true→T _ (first-is c)), record-sound desk _ (true→T _ (second-is c)))
+
+returns-3 : tie.Need-returns-3
+returns-3 c =
+    let b = c .before .before in
+    sym (answer-covers desk _ _ (first-is b) (second-is b) ∙ rw (sym (c .before .covers-sound .ensures) ∙ c .if3 .taken))
+
+returns-4 : tie.Need-returns-4
+returns-4 c =
+    let b = c .before .before in
+    sym (answer-covers desk _ _ (first-is b) (second-is b) ∙ rw (sym (c .before .covers-sound .ensures) ∙ c .if3 .left))
+
+pub covers-spec : {M : Type 1} → statement M
+covers-spec =
+    tie.close
+    (tie.spec
+    is-record-requires
+    returns
+    is-record-requires-2
+    returns-2
+    covers-sound-requires
+    returns-3
+    returns-4)

@@ -1,0 +1,59 @@
+-- `cover::search::covers_on` meets its contract: the first atom is tried on one candidate, with no variable placed.
+use borrow.Author.Needs.{needs}
+use native.Mathlib.Omega.{arith}
+use mathlib.Core.Path.{_∙_}
+use Rattle.cover.specs.Record.{desk, questionOf}
+use Rattle.cover.proofs.Maps.{said-ok}
+use Rattle.cover.proofs.Steps.{sound-in, in-first, on-candidate}
+use Rattle.cover.proofs.search.covers_on.Statement.{statement}
+use Rattle.cover.proofs.search.covers_on.Tie as tie
+
+shared-slice-read-n : tie.Need-shared-slice-read-n
+shared-slice-read-n c = search needs
+
+cast-n : tie.Need-cast-n
+cast-n c = search needs
+
+shared-slice-read-w : tie.Need-shared-slice-read-w
+shared-slice-read-w c = search needs
+
+cast-w : tie.Need-cast-w
+cast-w c = search needs
+
+sub-try-candidate : tie.Need-sub-try-candidate
+sub-try-candidate c = search needs
+
+mul-try-candidate : tie.Need-mul-try-candidate
+mul-try-candidate c = search needs
+
+add-try-candidate : tie.Need-add-try-candidate
+add-try-candidate c = search needs
+
+try-candidate-requires : tie.Need-try-candidate-requires
+try-candidate-requires c κs =
+    let start = c .before .before .before .before in (
+      in-first desk _ _ _ (sound-in desk _ (start .pre .0)) (omega arith),
+      omega arith,
+      omega arith,
+      omega arith,
+      omega arith,
+      omega arith,
+    )
+
+returns : tie.Need-returns
+unfolding questionOf
+returns c = said-ok (c .try-candidate .result) _ (c .try-candidate .ensures) ∙ on-candidate desk _ _ _ 64 (omega arith)
+
+pub covers-on-spec : {M : Type 1} → statement M
+covers-on-spec =
+    tie.close
+    (tie.spec
+    shared-slice-read-n
+    cast-n
+    shared-slice-read-w
+    cast-w
+    sub-try-candidate
+    mul-try-candidate
+    add-try-candidate
+    try-candidate-requires
+    returns)

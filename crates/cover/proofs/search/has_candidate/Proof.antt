@@ -1,0 +1,69 @@
+-- `cover::search::has_candidate` meets its contract. The loop's invariant: the atom has a candidate in all exactly
+-- where it has one among those from here on. The measure is their number.
+use native.Mathlib.Omega.{arith}
+use mathlib.Core.Path.{_≡_, refl, sym, _∙_}
+use Prim.Native.Nat.{_+_, _*_, _≤_}
+use lib.ListN.{length}
+use Rattle.cover.specs.Record.{desk, atomAt, atomsAt}
+use Rattle.cover.specs.Held.{partOf, hasCandidate}
+use Rattle.cover.proofs.Maps.{said-yes, said-no}
+use Rattle.cover.proofs.Steps.{candidate-none, candidate-hit, candidate-miss}
+use Rattle.cover.proofs.search.has_candidate.Statement.{statement}
+use Rattle.cover.proofs.search.has_candidate.Tie as tie
+
+abbrev Inv-loop : tie.InvT-loop
+Inv-loop first second i w map at₀ more₀ at more =
+    (at + more * 5 ≤ length second)
+    × (hasCandidate (partOf map) (atomsAt desk second 1 w) (atomAt desk first i)
+    ≡ hasCandidate (partOf map) (atomsAt desk second at more) (atomAt desk first i))
+
+abbrev μ-loop : tie.MeasureT-loop
+μ-loop first second i w map at₀ more₀ at more = more
+
+loop-holds : tie.Need-loop-holds Inv-loop μ-loop
+loop-holds c = (c .before .before .pre .2, refl)
+
+place-atom-requires : tie.Need-place-atom-requires Inv-loop μ-loop
+place-atom-requires c κs = (omega arith, omega arith, c .before .before .before .before .pre .1)
+
+returns : tie.Need-returns Inv-loop μ-loop
+returns c =
+    let p = c .before .place-atom in
+    sym
+    (c .before .before .before .loop .inv .1
+    ∙ candidate-hit desk _ _ _ _ _ (omega arith) (sym (p .ensures) ∙ said-yes (p .result) (c .if1 .taken)))
+
+add-at : tie.Need-add-at Inv-loop μ-loop
+add-at c = omega arith
+
+sub-more : tie.Need-sub-more Inv-loop μ-loop
+sub-more c = omega arith
+
+loop-less : tie.Need-loop-less Inv-loop μ-loop
+loop-less c = omega arith
+
+loop-again : tie.Need-loop-again Inv-loop μ-loop
+loop-again c =
+    let p = c .before .place-atom in (
+      omega arith,
+      c .before .before .before .loop .inv .1
+          ∙ candidate-miss desk _ _ _ _ _ (omega arith) (sym (p .ensures) ∙ said-no (p .result) (c .if1 .left)),
+    )
+
+returns-2 : tie.Need-returns-2 Inv-loop μ-loop
+returns-2 c = sym (c .before .loop .inv .1 ∙ candidate-none desk _ _ _ _ _ (omega arith))
+
+pub has-candidate-spec : {M : Type 1} → statement M
+has-candidate-spec =
+    tie.close
+    (tie.spec
+    Inv-loop
+    μ-loop
+    loop-holds
+    place-atom-requires
+    returns
+    add-at
+    sub-more
+    loop-less
+    loop-again
+    returns-2)

@@ -1,0 +1,23 @@
+// Covering, and the search desk's two operations over member records. A record is a count byte and five bytes an
+// atom: a relation number, then four places, of which the first one to four hold a variable (0 to 63) or a constant
+// (128 to 254) and the rest 255.
+mod desk;
+mod formed;
+mod place;
+mod record;
+mod search;
+
+pub use desk::covers;
+pub use desk::keep;
+pub use formed::in_form;
+pub use formed::no_atoms;
+pub use formed::put_atom;
+pub use formed::put_on;
+pub use search::covers_on;
+pub use search::covers_sound;
+
+// What a search answers: whether it placed all, and then where it sent each variable, 255 for nowhere.
+pub struct Placed {
+    pub ok: bool,
+    pub map: [u8; 64],
+}

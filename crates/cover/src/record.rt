@@ -1,0 +1,99 @@
+// Whether bytes are a member record.
+ghost use mathlib.Core.Path.{_≡_};
+ghost use Prim.Native.Nat.{_+_, _*_, _-_, _≤_};
+ghost use lib.ListN.{length};
+ghost use Rattle.cover.specs.Record.{desk, isTerm, unused, usedFirst, isAtom, areAtoms, isRecord};
+
+// Whether a byte is a term: a variable, 0 to 63, or a constant, 128 to 254.
+fn is_term(b: u8) -> bool
+    ensures { λ r. ⌜ r ≡ isTerm desk b ⌝ }
+{
+    if b < 64 {
+        return true;
+    }
+    if b < 128 {
+        return false;
+    }
+    b < 255
+}
+
+// Whether the places from the j-th on, of the four that start at i, are unused.
+fn are_unused(s: &[u8], i: usize, from: usize) -> bool
+    requires { ⌜ (from ≤ 4) × (i + 4 ≤ length (now s)) ⌝ }
+    ensures { λ r. ⌜ r ≡ unused (now (s .entry)) (i + from) (4 - from) ⌝ }
+{
+    let mut j = from;
+    while j < 4 {
+        if s[i + j] != 255 {
+            return false;
+        }
+        j += 1;
+    }
+    true
+}
+
+// Whether the four places that start at i are first some terms and then unused.
+fn used_first(s: &[u8], i: usize) -> bool
+    requires { ⌜ i + 4 ≤ length (now s) ⌝ }
+    ensures { λ r. ⌜ r ≡ usedFirst desk (now (s .entry)) i 4 ⌝ }
+{
+    let mut j = 0;
+    while j < 4 {
+        if !is_term(s[i + j]) {
+            return are_unused(s, i, j);
+        }
+        j += 1;
+    }
+    true
+}
+
+// Whether an atom starts at i.
+fn is_atom(s: &[u8], i: usize) -> bool
+    requires { ⌜ i + 5 ≤ length (now s) ⌝ }
+    ensures { λ r. ⌜ r ≡ isAtom desk (now (s .entry)) i ⌝ }
+{
+    if 64 <= s[i] {
+        return false;
+    }
+    if !is_term(s[i + 1]) {
+        return false;
+    }
+    used_first(s, i + 1)
+}
+
+// Whether n atoms start at i, one after the other.
+fn are_atoms(s: &[u8], i: usize, n: usize) -> bool
+    requires { ⌜ i + n * 5 ≤ length (now s) ⌝ }
+    ensures { λ r. ⌜ r ≡ areAtoms desk (now (s .entry)) i n ⌝ }
+{
+    let mut at = i;
+    let mut left = n;
+    while 0 < left {
+        if !is_atom(s, at) {
+            return false;
+        }
+        at += 5;
+        left -= 1;
+    }
+    true
+}
+
+// Whether s is a member record: 1 to 11 atoms, and a length that fits exactly.
+pub fn is_record(s: &[u8]) -> bool
+    ensures { λ r. ⌜ r ≡ isRecord desk (now (s .entry)) ⌝ }
+{
+    if s.len() == 0 {
+        return false;
+    }
+    let n = s[0] as usize;
+    if n == 0 {
+        return false;
+    }
+    if 11 < n {
+        return false;
+    }
+    if s.len() != 1 + n * 5 {
+        return false;
+    }
+    are_atoms(s, 1, n)
+}

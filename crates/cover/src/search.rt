@@ -1,0 +1,145 @@
+// The search for a covering map: one function takes the next atom, one tries its next candidate, and they call each
+// other. The map goes by value, so a candidate that fails leaves nothing to take back.
+use crate::Placed;
+use crate::place::place_atom;
+ghost use mathlib.Core.Path.{_≡_};
+ghost use Prim.Native.Nat.{_+_, _*_, _≤_, _<_};
+ghost use lib.Dec.{T};
+ghost use lib.ListN.{length, getD};
+ghost use Rattle.cover.specs.Lists.{all};
+ghost use Rattle.cover.specs.Search.{findMap, tried, covers, coversOn};
+ghost use Rattle.cover.specs.Record.{desk, isAtom, atomAt, atomsAt, questionOf, Sound};
+ghost use Rattle.cover.specs.Held.{partOf, said, AtomsIn, hasCandidate};
+
+// Whether the atom of first at i can be placed on one of the w atoms of second, as the map is now.
+fn has_candidate(first: &[u8], second: &[u8], i: usize, w: usize, map: [u8; 64]) -> bool
+    requires { ⌜ (i + 5 ≤ length (now first)) × T (isAtom desk (now first) i) × (1 + w * 5 ≤ length (now second)) ⌝ }
+    ensures { λ r. ⌜ r
+        ≡ hasCandidate (partOf map) (atomsAt desk (now (second .entry)) 1 w) (atomAt desk (now (first .entry)) i) ⌝ }
+{
+    let mut at = 1;
+    let mut more = w;
+    while 0 < more {
+        let placed = place_atom(first, second, i, at, map);
+        let ok = placed.ok;
+        if ok {
+            return true;
+        }
+        at += 5;
+        more -= 1;
+    }
+    false
+}
+
+// The look-ahead: whether each of the `left` atoms of first from i on has a candidate.
+fn all_have(first: &[u8], second: &[u8], i: usize, left: usize, w: usize, map: [u8; 64]) -> bool
+    requires { ⌜ AtomsIn desk (now first) i left × (1 + w * 5 ≤ length (now second)) ⌝ }
+    ensures { λ r. ⌜ r
+        ≡ all
+        (hasCandidate (partOf map) (atomsAt desk (now (second .entry)) 1 w))
+        (atomsAt desk (now (first .entry)) i left) ⌝ }
+{
+    let mut at = i;
+    let mut more = left;
+    while 0 < more {
+        if !has_candidate(first, second, at, w, map) {
+            return false;
+        }
+        at += 5;
+        more -= 1;
+    }
+    true
+}
+
+// Takes the next atom: places the `left` atoms of first from i on, in order, on the w atoms of second. A branch in
+// which some atom has no candidate any more ends at once; that changes no answer.
+fn place_next(first: &[u8], second: &[u8], i: usize, left: usize, w: usize, map: [u8; 64]) -> Placed
+    requires { ⌜ AtomsIn desk (now first) i left × (left ≤ 11) × (w ≤ 11) × (1 + w * 5 ≤ length (now second)) ⌝ }
+    ensures { λ r. ⌜ said r
+        ≡ findMap
+        (atomsAt desk (now (first .entry)) i left)
+        (atomsAt desk (now (second .entry)) 1 w)
+        (partOf map) ⌝ }
+{
+    if left == 0 {
+        return Placed { ok: true, map: map };
+    }
+    if !all_have(first, second, i, left, w, map) {
+        return Placed {
+            ok: false,
+            map: map,
+        };
+    }
+    try_candidate(first, second, i, left - 1, 1, w, w, map)
+}
+
+// Tries the next candidate: the atom of first at i goes to the first of the `more` atoms of second from k on from
+// which the `left` atoms after it can be placed too.
+fn try_candidate(
+    first: &[u8],
+    second: &[u8],
+    i: usize,
+    left: usize,
+    k: usize,
+    more: usize,
+    w: usize,
+    map: [u8; 64],
+) -> Placed
+    requires { ⌜ AtomsIn desk (now first) i (left + 1)
+        × (left < 11)
+        × (more ≤ w)
+        × (w ≤ 11)
+        × (k + more * 5 ≤ length (now second))
+        × (1 + w * 5 ≤ length (now second)) ⌝ }
+    ensures { λ r. ⌜ said r
+        ≡ tried
+        (atomAt desk (now (first .entry)) i)
+        (atomsAt desk (now (first .entry)) (i + 5) left)
+        (atomsAt desk (now (second .entry)) 1 w)
+        (atomsAt desk (now (second .entry)) k more)
+        (partOf map) ⌝ }
+{
+    if more == 0 {
+        return Placed {
+            ok: false,
+            map: map,
+        };
+    }
+    let placed = place_atom(first, second, i, k, map);
+    let ok = placed.ok;
+    if ok {
+        let extended = placed.map;
+        let rest = place_next(first, second, i + 5, left, w, extended);
+        let done = rest.ok;
+        if done {
+            return rest;
+        }
+    }
+    try_candidate(first, second, i, left, k + 5, more - 1, w, map)
+}
+
+// Whether the first record covers the second, where both are known to be sound.
+pub fn covers_sound(first: &[u8], second: &[u8]) -> bool
+    requires { ⌜ Sound desk (now first) × Sound desk (now second) ⌝ }
+    ensures { λ r. ⌜ r ≡ covers (questionOf desk (now (first .entry))) (questionOf desk (now (second .entry))) ⌝ }
+{
+    let n = first[0] as usize;
+    let w = second[0] as usize;
+    let placed = place_next(first, second, 1, n, w, [255u8; 64]);
+    placed.ok
+}
+
+// The same with first's first atom on atom k of second: what a loop over candidates asks.
+pub fn covers_on(first: &[u8], second: &[u8], k: usize) -> bool
+    requires { ⌜ Sound desk (now first) × Sound desk (now second) × (k < getD (now second) 0 0) ⌝ }
+    ensures { λ r. ⌜ r
+        ≡ coversOn
+        (questionOf desk (now (first .entry)))
+        (questionOf desk (now (second .entry)))
+        (atomAt desk (now (second .entry)) (1 + k * 5)) ⌝ }
+{
+    let n = first[0] as usize;
+    let w = second[0] as usize;
+    let placed = try_candidate(first, second, 1, n - 1, 1 + k * 5, 1, w, [255u8; 64]);
+    placed.ok
+}
