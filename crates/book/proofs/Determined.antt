@@ -1,0 +1,79 @@
+-- Any two results that a contract of this crate allows are equal. Assumes nothing.
+use mathlib.Core.Path.{_≡_, sym, _∙_, ap}
+use mathlib.Core.Logic.{_⊎_, inl, inr}
+use mathlib.Core.List.{List}
+use Prim.Native.Nat.{ℕ, zero, suc, _+_, _*_, _≤_, _<_}
+use native.Mathlib.Omega.{arith}
+use lib.ListN.{getD}
+use lib.Seq.{ext-getD}
+use Rattle.book.specs.declared.Header.{Header}
+use Rattle.book.specs.declared.Refusal.{Refusal}
+use Rattle.book.specs.declared.Parts.{Parts}
+use Rattle.book.specs.Header.{rules, atoms, HeaderRead, atomSize}
+use Rattle.book.specs.Verdict.{IsVerdict, verdict}
+use Rattle.book.specs.Parts.{StartsAt, partsAt, QuestionRecord}
+use Rattle.book.proofs.Earliest.{le-or-lt}
+use Rattle.book.proofs.Exact.{verdict-only}
+use Rattle.book.proofs.check.Reads as check-reads
+use Rattle.book.proofs.read.Reads as read-reads
+use Rattle.book.proofs.starts.Reads as starts-reads
+use Rattle.book.proofs.rule_at.Reads as rule-at-reads
+use Rattle.book.proofs.question.Reads as question-reads
+
+module _ (B : List ℕ) where
+  -- check: its contract names one refusal, and so does the statement over the conditions
+  pub check-determined : {r t : Refusal} → r ≡ verdict B → t ≡ verdict B → r ≡ t
+  check-determined e d = e ∙ sym d
+
+  pub verdict-determined : {r t : Refusal} → IsVerdict B r → IsVerdict B t → r ≡ t
+  verdict-determined v w = verdict-only B v ∙ sym (verdict-only B w)
+
+  pub read-determined : {h g : Header} → HeaderRead B h → HeaderRead B g → h ≡ g
+  read-determined r t = r .is ∙ sym (t .is)
+
+  pub rule-determined : (s : ℕ) {p q : Parts} → p ≡ partsAt B s → q ≡ partsAt B s → p ≡ q
+  rule-determined s e d = e ∙ sym d
+
+  pub starts-determined : {a b : List ℕ} → StartsAt B a → StartsAt B b → a ≡ b
+  starts-determined {a} {b} s t =
+      ext-getD 0 a b (s .size ∙ sym (t .size)) (λ k l. go k (le-or-lt k (rules B)))
+    where
+      go : (k : ℕ) → (k ≤ rules B) ⊎ (rules B < k) → getD a k 0 ≡ getD b k 0
+      go k (inl h) = s .starts k h ∙ sym (t .starts k h)
+      go k (inr h) = s .rest k h ∙ sym (t .rest k h)
+
+  pub question-determined : {r t : List ℕ} → QuestionRecord B r → QuestionRecord B t → r ≡ t
+  question-determined {r} {t} q p = ext-getD 0 r t (q .size ∙ sym (p .size)) (λ i l. go i)
+    where
+      at : (i : ℕ) → (atomSize * atoms B ≤ i) ⊎ (i < atomSize * atoms B) → getD r (1 + i) 0 ≡ getD t (1 + i) 0
+      at i (inl h) = q .rest i h ∙ sym (p .rest i h)
+      at i (inr h) = q .bytes i h ∙ sym (p .bytes i h)
+
+      go : (i : ℕ) → getD r i 0 ≡ getD t i 0
+      go zero = q .count ∙ sym (p .count)
+      go (suc i) =
+          let e : 1 + i ≡ suc i = omega arith in
+          ap (λ (k : ℕ). getD r k 0) (sym e)
+          ∙ at i (le-or-lt (atomSize * atoms B) i)
+          ∙ ap (λ (k : ℕ). getD t k 0) e
+
+-- The same of the contracts themselves, as a caller learns them: `Learnt` at the lifetimes, the arguments, the result
+-- and the exit.
+pub check-learnt : (κs : _) (a : _) (r s : _) (x y : _) → check-reads.Learnt κs a r x → check-reads.Learnt κs a s y
+    → r ≡ s
+check-learnt κs a r s x y p q = check-determined _ p q
+
+pub read-learnt : (κs : _) (a : _) (r s : _) (x y : _) → read-reads.Learnt κs a r x → read-reads.Learnt κs a s y → r ≡ s
+read-learnt κs a r s x y p q = read-determined _ p q
+
+pub starts-learnt : (κs : _) (a : _) (r s : _) (x y : _) → starts-reads.Learnt κs a r x
+    → starts-reads.Learnt κs a s y → r ≡ s
+starts-learnt κs a r s x y p q = starts-determined _ p q
+
+pub rule-at-learnt : (κs : _) (a : _) (r s : _) (x y : _) → rule-at-reads.Learnt κs a r x
+    → rule-at-reads.Learnt κs a s y → r ≡ s
+rule-at-learnt κs a r s x y p q = p ∙ sym q
+
+pub question-learnt : (κs : _) (a : _) (r s : _) (x y : _) → question-reads.Learnt κs a r x
+    → question-reads.Learnt κs a s y → r ≡ s
+question-learnt κs a r s x y p q = question-determined _ p q

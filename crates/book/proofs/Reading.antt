@@ -1,0 +1,105 @@
+-- What the readers of a sound book give, over `bookOf`: laws for the layers above. Assumes nothing.
+use mathlib.Core.Path.{_≡_, refl, sym, _∙_, ap, subst}
+use mathlib.Core.List.{List, [], _∷_, List·Memᴰ·head, List·Memᴰ·tail, List·Memᴰ·not-nil, List·Memᴰ·cases-cons}
+use mathlib.Core.Logic.{_⊎_, inl, inr}
+use Prim.Native.Nat.{ℕ, zero, suc, _+_, _*_, _-_, _≤_, _<_}
+use native.Mathlib.Nat.{sub-eq-zero-of-le}
+use native.Mathlib.Omega.{arith}
+use lib.Dec.{T}
+use Rattle.cover.specs.Lists.{_∈_}
+use Rattle.cover.specs.Record.{desk, size, atomsAt, questionOf, areAtoms, Sound as SoundRecord}
+use Rattle.book.specs.Rule.{Rule}
+use Rattle.book.specs.Header.{constants, rules, atoms, allowed, questionAt}
+use Rattle.book.specs.Book.{ruleEnd, ruleAt, rulesFrom, after}
+use Rattle.book.specs.Book.{rulesStart, ruleStart, bookOf}
+use Rattle.book.specs.Verdict.{Sound}
+use Rattle.book.specs.Parts.{partsAt, QuestionRecord}
+use Rattle.book.proofs.After.{after-next}
+use Rattle.book.proofs.Steps.{one-more}
+use Rattle.book.proofs.Sound.{sound-question, sound-atoms, desk-room}
+use Rattle.book.proofs.FromCover.{Copied, are-copied, atoms-copied, question-at}
+
+module _ (B : List ℕ) where
+  -- the parts of a book
+  pub book-rules : bookOf B .rules ≡ rulesFrom B (rulesStart B) (rules B)
+  unfolding bookOf
+  book-rules = refl
+
+  pub book-question : bookOf B .question ≡ atomsAt desk B (questionAt B) (atoms B)
+  unfolding bookOf
+  book-question = refl
+
+  pub book-allowed : bookOf B .allowed ≡ allowed B
+  unfolding bookOf
+  book-allowed = refl
+
+  pub book-constants : bookOf B .constants ≡ constants B
+  unfolding bookOf
+  book-constants = refl
+
+  -- a rule's body and head where `rule_at` finds them
+  pub rule-body : (s : ℕ) → ruleAt B s .body ≡ atomsAt desk B (partsAt B s .body) (partsAt B s .bodies)
+  unfolding ruleAt
+  rule-body s = refl
+
+  pub rule-head : (s : ℕ) → ruleAt B s .head ≡ atomsAt desk B (partsAt B s .head) (partsAt B s .heads)
+  unfolding ruleAt
+  rule-head s = refl
+
+  -- the rules as a loop goes through them: k of n are done
+  pub rules-none : (s n k : ℕ) → n ≤ k → rulesFrom B s (n - k) ≡ []
+  unfolding rulesFrom
+  rules-none s n k h = rw (sub-eq-zero-of-le h)
+
+  pub rules-more : (n k : ℕ) → k < n
+      → rulesFrom B (ruleStart B k) (n - k)
+      ≡ ruleAt B (ruleStart B k) ∷ rulesFrom B (ruleStart B (k + 1)) (n - (k + 1))
+  unfolding rulesFrom
+  rules-more n k h =
+      ap (rulesFrom B (ruleStart B k)) (one-more n k h)
+      ∙ ap (λ (s : ℕ). ruleAt B (ruleStart B k) ∷ rulesFrom B s (n - (k + 1))) (sym (after-next B (rulesStart B) k))
+
+  -- each rule of the list starts where `starts` says
+  pub rule-from : (s n : ℕ) {r : Rule} → r ∈ rulesFrom B s n → (k : ℕ) × (k < n) × (r ≡ ruleAt B (after B s k))
+  unfolding rulesFrom after
+  rule-from s zero m = absurd (List·Memᴰ·not-nil m)
+  rule-from s (suc n) {r} m = go (List·Memᴰ·cases-cons m) (λ t. rule-from (ruleEnd B s) n t)
+    where
+      Out : Type 0
+      Out = (k : ℕ) × (k < suc n) × (r ≡ ruleAt B (after B s k))
+
+      go : (r ≡ ruleAt B s) ⊎ (r ∈ rulesFrom B (ruleEnd B s) n)
+          → (r ∈ rulesFrom B (ruleEnd B s) n → (k : ℕ) × (k < n) × (r ≡ ruleAt B (after B (ruleEnd B s) k)))
+          → (k : ℕ) × (k < suc n) × (r ≡ ruleAt B (after B s k))
+      go (inl e) below = (0, omega arith, e)
+      go (inr t) below = let b = below t in (suc (b .0), omega (arith, b .1), b .2)
+
+  pub rule-in : (s n k : ℕ) → k < n → ruleAt B (after B s k) ∈ rulesFrom B s n
+  unfolding rulesFrom after
+  rule-in s zero k l = absurd (omega arith)
+  rule-in s (suc n) zero l = List·Memᴰ·head refl
+  rule-in s (suc n) (suc k) l = List·Memᴰ·tail (rule-in (ruleEnd B s) n k (omega arith))
+
+  -- the question's record holds the question, and is a sound record for `cover`
+  module _ (s : Sound B) (R : List ℕ) (q : QuestionRecord B R) where
+    copied : Copied desk B R 1 (questionAt B) (atoms B * size desk)
+    copied v l = q .bytes v (omega arith)
+
+    pub question-read : questionOf desk R ≡ bookOf B .question
+    question-read =
+        question-at desk R (q .count)
+        ∙ atoms-copied desk B R (omega arith) 1 (questionAt B) (atoms B) copied
+        ∙ sym book-question
+
+    pub question-sound : SoundRecord desk R
+    question-sound =
+        let k = sound-question B s in
+        record {
+          some-atom = omega (arith, q .count, k .some-atom);
+          most = omega (arith, q .count, k .few-atoms);
+          fits = omega (arith, q .count, k .few-atoms, q .size);
+          atoms =
+              subst (λ (n : ℕ). T (areAtoms desk R 1 n)) (sym (q .count))
+              (subst T (sym (are-copied desk B R (omega arith) 1 (questionAt B) (atoms B) copied))
+              (sound-atoms B s desk (desk-room B s)));
+        }

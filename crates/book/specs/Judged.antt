@@ -1,0 +1,31 @@
+-- What the functions that judge a book's parts know already of the parts before. The contract of `check` does not
+-- need it.
+use mathlib.Core.Path.{_≡_}
+use mathlib.Core.List.{List}
+use mathlib.Core.Option.{none}
+use Prim.Native.Nat.{ℕ, _+_, _≤_}
+use lib.Dec.{T}
+use lib.ListN.{length}
+use Rattle.book.specs.declared.Header.{Header}
+use Rattle.book.specs.Header.{headerSize, relations, constants, rules, questionAt, headerOf, relationsRange}
+use Rattle.book.specs.Header.{constantsRange}
+use Rattle.book.specs.Book.{rulesStart}
+use Rattle.book.specs.Verdict.{inTable, offsetsRight, wrongRule}
+
+-- of a book that refusals 2 to 4 do not hit: its header
+pub record HeaderRight (B : List ℕ) (h : Header) : Type 0 where
+  pub is : h ≡ headerOf B
+  pub table : T (inTable (headerOf B))
+  pub offsets : T (offsetsRight (headerOf B) (length B))
+
+-- and whose rules are right
+abbrev pub RulesRight : List ℕ → Type 0
+RulesRight B = wrongRule B (questionAt B) (rulesStart B) (rules B) ≡ none
+
+-- of a book whose atoms are judged: how many relations and constants it has, and that the relations fit
+pub record Judged (B : List ℕ) (p c : ℕ) : Type 0 where
+  pub relations-are : p ≡ relations B
+  pub constants-are : c ≡ constants B
+  pub few-relations : p ≤ relationsRange .most
+  pub few-constants : c ≤ constantsRange .most
+  pub fits : headerSize + p ≤ length B

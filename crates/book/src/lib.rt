@@ -1,0 +1,140 @@
+// The stored book: its rules and its question.
+mod judge;
+mod word;
+
+ghost use mathlib.Core.Path.{_≡_};
+ghost use Prim.Native.Nat.{_+_, _≤_};
+ghost use lib.ListN.{length};
+ghost use Rattle.book.specs.Header.{HeaderRead};
+ghost use Rattle.book.specs.Verdict.{verdict, Sound};
+ghost use Rattle.book.specs.Parts.{StartsAt, partsAt, QuestionRecord};
+use judge::contents;
+use judge::in_table;
+use judge::offsets_right;
+use word::ATOM;
+use word::HEADER;
+use word::wide;
+use word::word;
+
+// The nine words of a book's header, in their order.
+pub struct Header {
+    pub relations: usize,
+    pub constants: usize,
+    pub rules: usize,
+    pub atoms: usize,
+    pub allowed: usize,
+    pub table: usize,
+    pub start: usize,
+    pub question: usize,
+    pub total: usize,
+}
+
+// Why a book is refused, and the place; 0 and 0 where it is not.
+pub struct Refusal {
+    pub number: u8,
+    pub place: usize,
+}
+
+// Where the body and the head of a rule start in the book, and how many atoms each has.
+pub struct Parts {
+    pub body: usize,
+    pub bodies: usize,
+    pub head: usize,
+    pub heads: usize,
+}
+
+// The header of a book.
+pub fn read(book: &[u8]) -> Header
+    requires { ⌜ 18 ≤ length (now book) ⌝ }
+    ensures { λ r. ⌜ HeaderRead (now (book .entry)) r ⌝ }
+{
+    Header {
+        relations: word(book, 0),
+        constants: word(book, 2),
+        rules: word(book, 4),
+        atoms: word(book, 6),
+        allowed: word(book, 8),
+        table: word(book, 10),
+        start: word(book, 12),
+        question: word(book, 14),
+        total: word(book, 16),
+    }
+}
+
+// Whether a book is refused, for whatever bytes: the smallest number that applies, at the earliest place.
+pub fn check(book: &[u8]) -> Refusal
+    ensures { λ r. ⌜ r ≡ verdict (now (book .entry)) ⌝ }
+{
+    if book.len() < HEADER {
+        return Refusal {
+            number: 2,
+            place: 0,
+        };
+    }
+    let h = read(book);
+    if !in_table(h) {
+        return Refusal {
+            number: 3,
+            place: 0,
+        };
+    }
+    if !offsets_right(h, book.len()) {
+        return Refusal {
+            number: 4,
+            place: 0,
+        };
+    }
+    contents(book, h)
+}
+
+// Where each rule of a sound book starts, and where the rules end.
+pub fn starts(book: &[u8]) -> [usize; 33]
+    requires { ⌜ Sound (now book) ⌝ }
+    ensures { λ r. ⌜ StartsAt (now (book .entry)) r ⌝ }
+{
+    let h = read(book);
+    let n = h.rules;
+    let mut at = [0usize; 33];
+    let mut s = h.start;
+    at[0] = s;
+    let mut k: usize = 0;
+    while k < n {
+        s = s + 2 + ATOM * (wide(book[s]) + wide(book[s + 1]));
+        k = k + 1;
+        at[k] = s;
+    }
+    at
+}
+
+// The parts of the rule that starts at s.
+pub fn rule_at(book: &[u8], s: usize) -> Parts
+    requires { ⌜ s + 2 ≤ length (now book) ⌝ }
+    ensures { λ r. ⌜ r ≡ partsAt (now (book .entry)) s ⌝ }
+{
+    let b = wide(book[s]);
+    let h = wide(book[s + 1]);
+    Parts {
+        body: s + 2,
+        bodies: b,
+        head: s + 2 + ATOM * b,
+        heads: h,
+    }
+}
+
+// The question of a sound book as a member record: its count and its atoms.
+pub fn question(book: &[u8]) -> [u8; 41]
+    requires { ⌜ Sound (now book) ⌝ }
+    ensures { λ r. ⌜ QuestionRecord (now (book .entry)) r ⌝ }
+{
+    let h = read(book);
+    let q = h.question;
+    let n = ATOM * h.atoms;
+    let mut r = [0u8; 41];
+    r[0] = h.atoms as u8;
+    let mut i: usize = 0;
+    while i < n {
+        r[1 + i] = book[q + i];
+        i = i + 1;
+    }
+    r
+}
