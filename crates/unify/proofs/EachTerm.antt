@@ -1,0 +1,102 @@
+-- Laws of a test of the terms that stand in bytes, an atom and a place at a time: one for each way through the code.
+-- There b is the code's answer, of which is known what it says and what it is. Assumes nothing.
+use mathlib.Core.Path.{_≡_, refl, sym, _∙_, ap}
+use mathlib.Core.Bool.{Bool, true, false, _&&_, _||_}
+use mathlib.Core.List.{List, [], _∷_, _++_, map}
+use Prim.Native.Nat.{ℕ, _+_, _-_, _<_}
+use lib.ListN.{getD}
+use Rattle.cover.specs.Lists.{any, all}
+use Rattle.cover.specs.Term.{Term, Sub, on-term, on-question, terms}
+use Rattle.cover.specs.Record.{Layout, size, termOf, argsAt, atomAt, atomsAt}
+use Rattle.cover.proofs.Bytes.{args-more, args-end}
+use Rattle.cover.proofs.Steps.{atoms-none, atoms-more}
+
+module _ {A : Type 0} (p : A → Bool) where
+  pub all-append : (s t : List A) → all p (s ++ t) ≡ all p s && all p t
+  all-append [] t = refl
+  all-append (x ∷ s) t = go (p x) (all-append s t)
+    where
+      go : (b : Bool) → all p (s ++ t) ≡ all p s && all p t → b && all p (s ++ t) ≡ (b && all p s) && all p t
+      go true e = e
+      go false e = refl
+
+  pub any-append : (s t : List A) → any p (s ++ t) ≡ any p s || any p t
+  any-append [] t = refl
+  any-append (x ∷ s) t = go (p x) (any-append s t)
+    where
+      go : (b : Bool) → any p (s ++ t) ≡ any p s || any p t → b || any p (s ++ t) ≡ (b || any p s) || any p t
+      go true e = refl
+      go false e = e
+
+args-none : (B : List ℕ) (i w : ℕ) → w ≡ 0 → argsAt B i w ≡ []
+unfolding argsAt
+args-none B i w e = rw (e, argsAt)
+
+-- the places of an atom, of which j of w are passed: whether some term passes the test, whether each does once s sent
+-- it on
+module _ (p : Term → Bool) (B : List ℕ) (i j w : ℕ) (lt : j < w) where
+  pub some-place-end : getD B (i + j) 0 ≡ 255 → any p (argsAt B (i + j) (w - j)) ≡ false
+  some-place-end free = rw (args-end B i j w lt free)
+
+  pub some-place-hit : (getD B (i + j) 0 ≡ 255 → ⊥) → p (termOf (getD B (i + j) 0)) ≡ true
+      → any p (argsAt B (i + j) (w - j)) ≡ true
+  some-place-hit used e = rw (args-more B i j w lt used, e)
+
+  pub some-place-miss : (getD B (i + j) 0 ≡ 255 → ⊥) → p (termOf (getD B (i + j) 0)) ≡ false
+      → any p (argsAt B (i + j) (w - j)) ≡ any p (argsAt B (i + (j + 1)) (w - (j + 1)))
+  some-place-miss used e = rw (args-more B i j w lt used, e)
+
+  pub each-place-end : (s : Sub) → getD B (i + j) 0 ≡ 255 → all p (map (on-term s) (argsAt B (i + j) (w - j))) ≡ true
+  each-place-end s free = rw (args-end B i j w lt free)
+
+  pub each-place-fails : (s : Sub) → (getD B (i + j) 0 ≡ 255 → ⊥)
+      → {t : Term} → t ≡ on-term s (termOf (getD B (i + j) 0))
+      → {b : Bool} → b ≡ p t → b ≡ false
+      → all p (map (on-term s) (argsAt B (i + j) (w - j))) ≡ false
+  each-place-fails s used is e f = rw (args-more B i j w lt used, ap p (sym is) ∙ sym e ∙ f)
+
+  pub each-place-passes : (s : Sub) → (getD B (i + j) 0 ≡ 255 → ⊥)
+      → {t : Term} → t ≡ on-term s (termOf (getD B (i + j) 0))
+      → {b : Bool} → b ≡ p t → b ≡ true
+      → all p (map (on-term s) (argsAt B (i + j) (w - j)))
+      ≡ all p (map (on-term s) (argsAt B (i + (j + 1)) (w - (j + 1))))
+  each-place-passes s used is e f = rw (args-more B i j w lt used, ap p (sym is) ∙ sym e ∙ f)
+
+-- no place is left
+pub some-place-none : (p : Term → Bool) (B : List ℕ) (i w : ℕ) → w ≡ 0 → any p (argsAt B i w) ≡ false
+some-place-none p B i w e = rw (args-none B i w e)
+
+pub each-place-none : (p : Term → Bool) (s : Sub) (B : List ℕ) (i w : ℕ) → w ≡ 0
+    → all p (map (on-term s) (argsAt B i w)) ≡ true
+each-place-none p s B i w e = rw (args-none B i w e)
+
+-- n atoms from i on: the same of their terms
+module _ (p : Term → Bool) (L : Layout) (B : List ℕ) (i n : ℕ) where
+  pub some-term-none : n ≡ 0 → any p (terms (atomsAt L B i n)) ≡ false
+  some-term-none e = rw (atoms-none L B i n e)
+
+  pub some-term-hit : 0 < n → {b : Bool} → b ≡ any p (argsAt B (i + 1) (L .places)) → b ≡ true
+      → any p (terms (atomsAt L B i n)) ≡ true
+  unfolding atomAt
+  some-term-hit h e f = rw (atoms-more L B i n h, any-append p, sym e ∙ f)
+
+  pub some-term-miss : 0 < n → {b : Bool} → b ≡ any p (argsAt B (i + 1) (L .places)) → b ≡ false
+      → any p (terms (atomsAt L B i n)) ≡ any p (terms (atomsAt L B (i + size L) (n - 1)))
+  unfolding atomAt
+  some-term-miss h e f = rw (atoms-more L B i n h, any-append p, sym e ∙ f)
+
+  pub each-term-none : (s : Sub) → n ≡ 0 → all p (terms (on-question s (atomsAt L B i n))) ≡ true
+  each-term-none s e = rw (atoms-none L B i n e)
+
+  pub each-term-fails : (s : Sub) → 0 < n
+      → {b : Bool} → b ≡ all p (map (on-term s) (argsAt B (i + 1) (L .places))) → b ≡ false
+      → all p (terms (on-question s (atomsAt L B i n))) ≡ false
+  unfolding atomAt
+  each-term-fails s h e f = rw (atoms-more L B i n h, all-append p, sym e ∙ f)
+
+  pub each-term-passes : (s : Sub) → 0 < n
+      → {b : Bool} → b ≡ all p (map (on-term s) (argsAt B (i + 1) (L .places))) → b ≡ true
+      → all p (terms (on-question s (atomsAt L B i n)))
+      ≡ all p (terms (on-question s (atomsAt L B (i + size L) (n - 1))))
+  unfolding atomAt
+  each-term-passes s h e f = rw (atoms-more L B i n h, all-append p, sym e ∙ f)

@@ -1,0 +1,106 @@
+-- For whoever lists from a sound book: its rules and its question are what `next` asks for, and what `next` finds is
+-- numbered from where it was asked on and below the count of choices. Assumes nothing.
+use mathlib.Core.Path.{_≡_, refl, sym, _∙_, ap, subst}
+use mathlib.Core.Bool.{true, false}
+use mathlib.Core.List.{List}
+use mathlib.Core.Option.{Option, none, some}
+use Prim.Native.Nat.{ℕ, _*_, _≤_, _<_}
+use native.Mathlib.Omega.{arith}
+use lib.Dec.{T}
+use lib.ListN.{length, getD}
+use Rattle.cover.specs.Term.{Question}
+use Rattle.cover.specs.Record.{desk, size, questionOf, areAtoms}
+use Rattle.cover.proofs.Fitting.{count-atoms}
+use Rattle.book.specs.declared.Parts.{Parts}
+use Rattle.book.specs.Header.{rules, atoms, questionAt}
+use Rattle.book.specs.Book.{ruleAt, ruleStart}
+use Rattle.book.specs.Verdict.{Sound}
+use Rattle.book.specs.Parts.{partsAt, QuestionRecord}
+use Rattle.book.proofs.Sound.{Room, sound-header, sound-rule, sound-question, sound-body, sound-head, sound-atoms}
+use Rattle.book.proofs.FromCover.{Copied, are-copied, question-at}
+use Rattle.unify.specs.declared.Found.{Found}
+use Rattle.unify.specs.Choice.{count}
+use Rattle.unify.specs.Step.{next}
+use Rattle.unify.specs.Held.{inBook, ruleIn, ruleOf, answered, RuleIn, QuestionIn}
+use Rattle.unify.proofs.Following.{next-listed, listed-below}
+use Rattle.unify.proofs.Asked.{count-few}
+
+module _ (B : List ℕ) (s : Sound B) where
+  room : Room B inBook
+  room =
+      let k = sound-header B s in
+      record {
+        relations-fit = k .few-relations;
+        places-are = refl;
+        variables-fit = omega arith;
+        constants-fit = k .few-constants;
+      }
+
+  pub rule-in : (k : ℕ) → k < rules B → RuleIn B (partsAt B (ruleStart B k))
+  rule-in k l =
+      let r = sound-rule B s k l in
+      let q = sound-question B s in
+      record {
+        body =
+            record {
+              fits = omega (arith, r .ends, q .ends);
+              sound = sound-body B s inBook room k l;
+            };
+        head =
+            record {
+              fits = omega (arith, r .ends, q .ends);
+              sound = sound-head B s inBook room k l;
+            };
+        some-body = r .some-body;
+        few-body = r .few-body;
+        some-head = r .some-head;
+        few-head = r .few-head;
+      }
+
+  pub question-in : (R : List ℕ) → QuestionRecord B R → QuestionIn R
+  question-in R q =
+      let k = sound-question B s in
+      let c : Copied inBook B R 1 (questionAt B) (atoms B * size inBook) = λ v l. q .bytes v (omega arith) in
+      record {
+        atoms =
+            record {
+              fits = omega (arith, q .count, k .few-atoms, q .size);
+              sound =
+                  subst (λ (n : ℕ). T (areAtoms inBook R 1 n)) (sym (q .count))
+                  (subst T (sym (are-copied inBook B R (omega arith) 1 (questionAt B) (atoms B) c))
+                  (sound-atoms B s inBook room));
+            };
+        few = omega (arith, q .count, k .few-atoms);
+      }
+
+-- the rule that `next` is asked about is the book's
+pub rule-is : (B : List ℕ) (s : ℕ) → ruleOf B (partsAt B s) ≡ ruleAt B s
+unfolding ruleIn ruleAt
+rule-is B s = refl
+
+module _ (Q B : List ℕ) (p : Parts) (q : QuestionIn Q) (r : RuleIn B p) (from : ℕ) where
+  heads : length (ruleOf B p .head) ≡ p .heads
+  unfolding ruleIn
+  heads = count-atoms desk B (p .heads) (p .head)
+
+  long : length (questionOf desk Q) ≡ getD Q 0 0
+  long = ap length (question-at desk Q refl) ∙ count-atoms desk Q (getD Q 0 0) 1
+
+  pub found-within : (f : Found) → f ≡ answered (next 32 (ruleOf B p) (questionOf desk Q) from) → f .found ≡ true
+      → (from ≤ f .choice) × (f .choice < 390625)
+  found-within f e t = go (next 32 (ruleOf B p) (questionOf desk Q) from) refl e
+    where
+      go : (o : Option (ℕ × Question)) → next 32 (ruleOf B p) (questionOf desk Q) from ≡ o → f ≡ answered o
+          → (from ≤ f .choice) × (f .choice < 390625)
+      go none o a =
+          let z : true ≡ false = sym t ∙ ap (λ (x : Found). x .found) a in
+          let y : _≡_ {A = ℕ} 0 1 = cc in
+          absurd (omega arith)
+      go (some x) o a =
+          let c : f .choice ≡ x .0 = ap (λ (y : Found). y .choice) a in
+          let m = next-listed 32 (ruleOf B p) (questionOf desk Q) from x o in
+          let b = listed-below 32 (ruleOf B p) (questionOf desk Q) (x .0) (x .1) (m .0) in
+          let h =
+          count-few (length (ruleOf B p .head)) (length (questionOf desk Q)) (omega (arith, heads, r .few-head))
+          (omega (arith, long, q .few)) in
+          (omega (arith, c, m .1), omega (arith, c, b, h))

@@ -1,0 +1,102 @@
+-- `unify::judging::apart_places` meets its contract. The loop's invariant: the terms in the places are apart exactly
+-- where those from the j-th place on are, and these places are sound. The measure is the number of places left.
+use borrow.Author.Needs.{needs}
+use native.Mathlib.Omega.{arith}
+use native.Mathlib.Nat.{add-zero}
+use mathlib.Core.Path.{_≡_, refl, sym, _∙_}
+use mathlib.Core.List.{map}
+use Prim.Native.Nat.{_+_, _-_, _≤_}
+use borrow.Author.Tests.{not-true, not-false}
+use lib.Dec.{T}
+use Rattle.cover.specs.Lists.{all}
+use Rattle.cover.specs.Term.{on-term}
+use Rattle.cover.specs.Record.{argsAt, usedFirst}
+use Rattle.cover.proofs.Bytes.{used-more}
+use Rattle.unify.specs.Step.{up}
+use Rattle.unify.specs.Held.{inBook}
+use Rattle.unify.proofs.EachTerm.{each-place-end, each-place-fails, each-place-passes, each-place-none}
+use Rattle.unify.proofs.Judged.{term-above, apartByte}
+use Rattle.unify.proofs.judging.apart_places.Statement.{statement}
+use Rattle.unify.proofs.judging.apart_places.Tie as tie
+
+abbrev Inv-loop : tie.InvT-loop
+Inv-loop s i shift z rep table j₀ j =
+    (j ≤ 4)
+    × T (usedFirst inBook s (i + j) (4 - j))
+    × (all (apartByte table z rep) (map (on-term (up shift)) (argsAt s i 4))
+    ≡ all (apartByte table z rep) (map (on-term (up shift)) (argsAt s (i + j) (4 - j))))
+
+abbrev μ-loop : tie.MeasureT-loop
+μ-loop s i shift z rep table j₀ j = 4 - j
+
+loop-holds : tie.Need-loop-holds Inv-loop μ-loop
+loop-holds c = (omega arith, rw add-zero (c .before .pre .2), rw add-zero refl)
+
+add-u : tie.Need-add-u Inv-loop μ-loop
+add-u c = omega arith
+
+shared-slice-read-u : tie.Need-shared-slice-read-u Inv-loop μ-loop
+shared-slice-read-u c = omega arith
+
+returns : tie.Need-returns Inv-loop μ-loop
+returns c =
+    sym (c .before .before .before .loop .inv .2 ∙ each-place-end _ _ _ _ 4 (omega arith) _ (c .if1 .taken))
+
+shifted-requires : tie.Need-shifted-requires Inv-loop μ-loop
+shifted-requires c κs =
+    let l = c .before .before .before in
+    let a = l .before .before .args in
+    let u = used-more (a .s .now) (a .i) (l .loop .j) 4 (omega arith) inBook (l .loop .inv .1) (c .if1 .left) in
+    (term-above inBook _ (u .0), omega arith)
+
+is-apart-requires : tie.Need-is-apart-requires Inv-loop μ-loop
+is-apart-requires c κs = search needs
+
+returns-2 : tie.Need-returns-2 Inv-loop μ-loop
+returns-2 c =
+    let l = c .before .before .before .before .before .before in
+    let a = l .before .before .args in
+    sym
+    (l .loop .inv .2
+    ∙ each-place-fails (apartByte (a .table) (a .z) (a .rep)) _ _ _ 4 (omega arith) _
+    (c .before .before .before .if1 .left)
+    (c .before .before .shifted .ensures) (c .before .is-apart .ensures) (not-true _ (c .if2 .taken)))
+
+add-j : tie.Need-add-j Inv-loop μ-loop
+add-j c = omega arith
+
+loop-less : tie.Need-loop-less Inv-loop μ-loop
+loop-less c = omega arith
+
+loop-again : tie.Need-loop-again Inv-loop μ-loop
+loop-again c =
+    let l = c .before .before .before .before .before .before in
+    let a = l .before .before .args in
+    let used = c .before .before .before .if1 .left in (
+      omega arith,
+      used-more (a .s .now) (a .i) (l .loop .j) 4 (omega arith) inBook (l .loop .inv .1) used .1,
+      l .loop .inv .2
+          ∙ each-place-passes (apartByte (a .table) (a .z) (a .rep)) _ _ _ 4 (omega arith) _ used
+          (c .before .before .shifted .ensures) (c .before .is-apart .ensures) (not-false _ (c .if2 .left)),
+    )
+
+returns-3 : tie.Need-returns-3 Inv-loop μ-loop
+returns-3 c = sym (c .before .loop .inv .2 ∙ each-place-none _ _ _ _ _ (omega arith))
+
+pub apart-places-spec : {M : Type 1} → statement M
+apart-places-spec =
+    tie.close
+    (tie.spec
+    Inv-loop
+    μ-loop
+    loop-holds
+    add-u
+    shared-slice-read-u
+    returns
+    shifted-requires
+    is-apart-requires
+    returns-2
+    add-j
+    loop-less
+    loop-again
+    returns-3)

@@ -1,0 +1,69 @@
+-- `unify::judging::in_places` meets its contract. The loop's invariant: the term stands in the places exactly where it
+-- stands in those from the j-th on. The measure is the number of places left.
+use native.Mathlib.Omega.{arith}
+use native.Mathlib.Nat.{add-zero}
+use mathlib.Core.Path.{_≡_, refl, sym, _∙_}
+use Prim.Native.Nat.{_+_, _-_, _≤_}
+use borrow.Author.Tests.{eq-eqb, ne-eqb}
+use Rattle.cover.specs.Record.{termOf, argsAt}
+use Rattle.cover.proofs.Bytes.{term-same}
+use Rattle.unify.specs.Step.{memTerm}
+use Rattle.unify.proofs.EachTerm.{some-place-end, some-place-hit, some-place-miss, some-place-none}
+use Rattle.unify.proofs.judging.in_places.Statement.{statement}
+use Rattle.unify.proofs.judging.in_places.Tie as tie
+
+abbrev Inv-loop : tie.InvT-loop
+Inv-loop s i t j₀ j = (j ≤ 4) × (memTerm (termOf t) (argsAt s i 4) ≡ memTerm (termOf t) (argsAt s (i + j) (4 - j)))
+
+abbrev μ-loop : tie.MeasureT-loop
+μ-loop s i t j₀ j = 4 - j
+
+loop-holds : tie.Need-loop-holds Inv-loop μ-loop
+loop-holds c = (omega arith, rw add-zero refl)
+
+add-u : tie.Need-add-u Inv-loop μ-loop
+add-u c = omega arith
+
+shared-slice-read-u : tie.Need-shared-slice-read-u Inv-loop μ-loop
+shared-slice-read-u c = omega arith
+
+returns : tie.Need-returns Inv-loop μ-loop
+returns c = sym (c .before .before .before .loop .inv .1 ∙ some-place-end _ _ _ _ 4 (omega arith) (c .if1 .taken))
+
+returns-2 : tie.Need-returns-2 Inv-loop μ-loop
+returns-2 c =
+    sym
+    (c .before .before .before .before .loop .inv .1
+    ∙ some-place-hit _ _ _ _ 4 (omega arith) (c .before .if1 .left) (term-same _ _ ∙ eq-eqb _ _ (c .if2 .taken)))
+
+add-j : tie.Need-add-j Inv-loop μ-loop
+add-j c = omega arith
+
+loop-less : tie.Need-loop-less Inv-loop μ-loop
+loop-less c = omega arith
+
+loop-again : tie.Need-loop-again Inv-loop μ-loop
+loop-again c = (
+  omega arith,
+  c .before .before .before .before .loop .inv .1
+      ∙ some-place-miss _ _ _ _ 4 (omega arith) (c .before .if1 .left) (term-same _ _ ∙ ne-eqb _ _ (c .if2 .left)),
+)
+
+returns-3 : tie.Need-returns-3 Inv-loop μ-loop
+returns-3 c = sym (c .before .loop .inv .1 ∙ some-place-none _ _ _ _ (omega arith))
+
+pub in-places-spec : {M : Type 1} → statement M
+in-places-spec =
+    tie.close
+    (tie.spec
+    Inv-loop
+    μ-loop
+    loop-holds
+    add-u
+    shared-slice-read-u
+    returns
+    returns-2
+    add-j
+    loop-less
+    loop-again
+    returns-3)

@@ -1,0 +1,92 @@
+-- `unify::judging::is_valid` meets its contract. The loop's invariant: the classes are valid exactly where each term
+-- of the head atoms from here on is allowed, and these atoms are sound. The measure is their number.
+use borrow.Author.Needs.{needs}
+use native.Mathlib.Omega.{arith}
+use mathlib.Core.Path.{_≡_, refl, sym, _∙_}
+use borrow.Author.Tests.{not-true, not-false}
+use Rattle.cover.specs.Lists.{all}
+use Rattle.cover.specs.Term.{on-question, terms}
+use Rattle.cover.specs.Record.{desk, atomsAt}
+use Rattle.cover.specs.Held.{AtomsIn}
+use Rattle.cover.proofs.Bytes.{atom-used}
+use Rattle.cover.proofs.Steps.{sound-more}
+use Rattle.unify.specs.Step.{up, move, valid}
+use Rattle.unify.specs.Table.{tabled}
+use Rattle.unify.specs.Held.{inBook, ruleIn, classesOf}
+use Rattle.unify.proofs.EachTerm.{each-term-none, each-term-fails, each-term-passes}
+use Rattle.unify.proofs.Judged.{leftIn, allowedByte}
+use Rattle.unify.proofs.judging.is_valid.Statement.{statement}
+use Rattle.unify.proofs.judging.is_valid.Tie as tie
+
+abbrev Inv-loop : tie.InvT-loop
+Inv-loop book body bodies head heads table left at₀ more₀ at more =
+    AtomsIn inBook book at more
+    × (valid (tabled (classesOf table)) (leftIn left) (move 32 (ruleIn book body bodies head heads))
+    ≡ all
+    (allowedByte left book body bodies head heads table)
+    (terms (on-question (up 32) (atomsAt desk book at more))))
+
+abbrev μ-loop : tie.MeasureT-loop
+μ-loop book body bodies head heads table left at₀ more₀ at more = more
+
+loop-holds : tie.Need-loop-holds Inv-loop μ-loop
+unfolding ruleIn
+loop-holds c = (c .before .pre .2, refl)
+
+slice-aggregate-allowed-places : tie.Need-slice-aggregate-allowed-places Inv-loop μ-loop
+slice-aggregate-allowed-places c = search needs
+
+add-allowed-places : tie.Need-add-allowed-places Inv-loop μ-loop
+add-allowed-places c = omega arith
+
+allowed-places-requires : tie.Need-allowed-places-requires Inv-loop μ-loop
+allowed-places-requires c κs =
+    let l = c .before .before in
+    let p = l .before .before .pre in
+    let s = sound-more inBook _ _ _ (omega arith) (l .loop .inv .0 .sound) in
+    (p .0, p .1, p .2, omega arith, atom-used inBook _ _ (s .0))
+
+returns : tie.Need-returns Inv-loop μ-loop
+returns c =
+    sym
+    (c .before .before .before .before .loop .inv .1
+    ∙ each-term-fails _ desk _ _ _ _ (omega arith)
+    (c .before .allowed-places .ensures) (not-true _ (c .if1 .taken)))
+
+add-at : tie.Need-add-at Inv-loop μ-loop
+add-at c = omega arith
+
+sub-more : tie.Need-sub-more Inv-loop μ-loop
+sub-more c = omega arith
+
+loop-less : tie.Need-loop-less Inv-loop μ-loop
+loop-less c = omega arith
+
+loop-again : tie.Need-loop-again Inv-loop μ-loop
+loop-again c =
+    let l = c .before .before .before .before .loop in (
+      record { fits = omega arith; sound = sound-more inBook _ _ _ (omega arith) (l .inv .0 .sound) .1 },
+      l .inv .1
+          ∙ each-term-passes _ desk _ _ _ _ (omega arith)
+          (c .before .allowed-places .ensures) (not-false _ (c .if1 .left)),
+    )
+
+returns-2 : tie.Need-returns-2 Inv-loop μ-loop
+returns-2 c = sym (c .before .loop .inv .1 ∙ each-term-none _ desk _ _ _ _ (omega arith))
+
+pub is-valid-spec : {M : Type 1} → statement M
+is-valid-spec =
+    tie.close
+    (tie.spec
+    Inv-loop
+    μ-loop
+    loop-holds
+    slice-aggregate-allowed-places
+    add-allowed-places
+    allowed-places-requires
+    returns
+    add-at
+    sub-more
+    loop-less
+    loop-again
+    returns-2)
