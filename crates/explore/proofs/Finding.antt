@@ -1,0 +1,162 @@
+-- Laws of the search for a covering member (`specs/Held`): one member more, one candidate more. Assumes nothing.
+use mathlib.Core.Path.{_≡_, refl, sym, _∙_, ap, ap₂, subst}
+use mathlib.Core.Bool.{Bool, true, false, cond, _||_}
+use mathlib.Core.List.{List, [], _∷_, _++_}
+use Prim.Native.Nat.{ℕ, zero, suc, _+_, _*_, _-_, _≤_, _<_}
+use native.Mathlib.Omega.{arith}
+use native.Mathlib.Nat.{sub-eq-zero-of-le}
+use borrow.Author.Tests.{lt-ltb}
+use lib.Dec.{ltb, eqb, leb·suc-suc}
+use lib.ListN.{length, getD, take, drop, length-drop}
+use lib.Seq.{getD-drop, take-all}
+use Rattle.cover.specs.Lists.{any}
+use Rattle.cover.specs.Term.{Atom, Question}
+use Rattle.cover.specs.Search.{covers, coversOn}
+use Rattle.cover.specs.Record.{desk, size, argsAt, atomAt, atomsAt, questionOf, termOf, Sound}
+use Rattle.cover.proofs.Decides.{covers-any}
+use Rattle.book.specs.Word.{byte}
+use Rattle.explore.specs.Run.{Test, covered}
+use Rattle.explore.specs.Union.{membersFrom, memberEnd}
+use Rattle.explore.specs.Held.{Standing, beforeCovering}
+
+one-more : (n i : ℕ) → i < n → n - i ≡ suc (n - (i + 1))
+one-more n i h = omega arith
+
+-- a question read from a place on is read from the part of the buffer that starts there
+module _ (W : List ℕ) (i : ℕ) where
+  args-from : (j w : ℕ) → argsAt (drop i W) j w ≡ argsAt W (i + j) w
+  unfolding argsAt
+  args-from j zero = refl
+  args-from j (suc w) =
+      ap₂
+      (λ b l. let r = termOf b ∷ l in cond (eqb b 255) [] r)
+      (getD-drop i W j 0)
+      (args-from (j + 1) w ∙ ap (λ (k : ℕ). argsAt W k w) (omega arith))
+
+  atom-from : (j : ℕ) → atomAt desk (drop i W) j ≡ atomAt desk W (i + j)
+  unfolding atomAt
+  atom-from j =
+      ap₂ (λ r l. record { rel = r; args = l }) (getD-drop i W j 0)
+      (args-from (j + 1) 4 ∙ ap (λ (k : ℕ). argsAt W k 4) (omega arith))
+
+  atoms-from : (j n : ℕ) → atomsAt desk (drop i W) j n ≡ atomsAt desk W (i + j) n
+  unfolding atomsAt
+  atoms-from j zero = refl
+  atoms-from j (suc n) =
+      ap₂ _∷_ (atom-from j) (atoms-from (j + 5) n ∙ ap (λ (k : ℕ). atomsAt desk W k n) (omega arith))
+
+  count-from : getD (drop i W) 0 0 ≡ byte W i
+  count-from = getD-drop i W 0 0 ∙ ap (λ (k : ℕ). getD W k 0) (omega arith)
+
+  pub question-from : questionOf desk (drop i W) ≡ atomsAt desk W (i + 1) (byte W i)
+  unfolding questionOf
+  question-from = ap (atomsAt desk (drop i W) 1) count-from ∙ atoms-from 1 (byte W i)
+
+-- one candidate more
+module _ (f : Atom → Bool) (B : List ℕ) (k w : ℕ) where
+  pub any-end : w ≤ k → any f (atomsAt desk B (1 + k * 5) (w - k)) ≡ false
+  unfolding atomsAt
+  any-end h = ap (λ (n : ℕ). any f (atomsAt desk B (1 + k * 5) n)) (sub-eq-zero-of-le h)
+
+  any-next : k < w → any f (atomsAt desk B (1 + k * 5) (w - k))
+      ≡ (f (atomAt desk B (1 + k * 5)) || any f (atomsAt desk B (1 + (k + 1) * 5) (w - (k + 1))))
+  unfolding atomsAt
+  any-next h =
+      ap (λ (n : ℕ). any f (atomsAt desk B (1 + k * 5) n)) (one-more w k h)
+      ∙ ap (λ (m : ℕ). f (atomAt desk B (1 + k * 5)) || any f (atomsAt desk B m (w - (k + 1)))) (omega arith)
+
+  pub any-hit : k < w → f (atomAt desk B (1 + k * 5)) ≡ true → any f (atomsAt desk B (1 + k * 5) (w - k)) ≡ true
+  any-hit h e = any-next h ∙ ap (λ (b : Bool). b || any f (atomsAt desk B (1 + (k + 1) * 5) (w - (k + 1)))) e
+
+  pub any-miss : k < w → f (atomAt desk B (1 + k * 5)) ≡ false
+      → any f (atomsAt desk B (1 + k * 5) (w - k)) ≡ any f (atomsAt desk B (1 + (k + 1) * 5) (w - (k + 1)))
+  any-miss h e = any-next h ∙ ap (λ (b : Bool). b || any f (atomsAt desk B (1 + (k + 1) * 5) (w - (k + 1)))) e
+
+-- a question with an atom covers where one of the candidates serves
+pub covers-one : (M C : List ℕ) → Sound desk M
+    → covers (questionOf desk M) (questionOf desk C)
+    ≡ any (coversOn (questionOf desk M) (questionOf desk C)) (atomsAt desk C (1 + 0 * 5) (getD C 0 0 - 0))
+unfolding questionOf atomsAt
+covers-one M C s =
+    ap (λ (n : ℕ). covers (atomsAt desk M 1 n) (questionOf desk C)) some
+    ∙ covers-any (atomAt desk M 1) (atomsAt desk M 6 (getD M 0 0 - 1)) (questionOf desk C)
+    ∙ ap (λ (n : ℕ). any (coversOn (atomsAt desk M 1 n) (questionOf desk C)) (questionOf desk C)) (sym some)
+    ∙ ap (λ (n : ℕ). any (coversOn (questionOf desk M) (questionOf desk C)) (atomsAt desk C 1 n)) whole
+  where
+    whole : getD C 0 0 ≡ getD C 0 0 - 0
+    whole = omega arith
+
+    some : getD M 0 0 ≡ suc (getD M 0 0 - 1)
+    some = omega (arith, s .some-atom)
+
+end-is : (W : List ℕ) (at : ℕ) → memberEnd W at ≡ at + (1 + byte W at * 5)
+end-is W at = omega arith
+
+-- one member more
+module _ (cov : Test) (P : Question) (W : List ℕ) (at i n : ℕ) where
+  pub first-end : n ≤ i → beforeCovering cov P (membersFrom W at (n - i)) ≡ 0
+  unfolding membersFrom beforeCovering
+  first-end h = ap (λ (m : ℕ). beforeCovering cov P (membersFrom W at m)) (sub-eq-zero-of-le h)
+
+  first-next : i < n → beforeCovering cov P (membersFrom W at (n - i))
+      ≡ cond (cov (questionOf desk (drop at W)) P) 0
+      (suc (beforeCovering cov P (membersFrom W (memberEnd W at) (n - (i + 1)))))
+  unfolding membersFrom beforeCovering
+  first-next h =
+      ap (λ (m : ℕ). beforeCovering cov P (membersFrom W at m)) (one-more n i h)
+      ∙ ap
+      (λ (M : Question). cond (cov M P) 0
+      (suc (beforeCovering cov P (membersFrom W (memberEnd W at) (n - (i + 1))))))
+      (sym (question-from W at))
+
+  pub first-hit : i < n → cov (questionOf desk (drop at W)) P ≡ true
+      → beforeCovering cov P (membersFrom W at (n - i)) ≡ 0
+  first-hit h e =
+      first-next h
+      ∙ ap
+      (λ (b : Bool). cond b 0 (suc (beforeCovering cov P (membersFrom W (memberEnd W at) (n - (i + 1)))))) e
+
+  pub first-miss : i < n → cov (questionOf desk (drop at W)) P ≡ false
+      → beforeCovering cov P (membersFrom W at (n - i))
+      ≡ suc (beforeCovering cov P (membersFrom W (at + (1 + byte W at * 5)) (n - (i + 1))))
+  first-miss h e =
+      first-next h
+      ∙ ap
+      (λ (b : Bool). cond b 0 (suc (beforeCovering cov P (membersFrom W (memberEnd W at) (n - (i + 1)))))) e
+      ∙ ap (λ (k : ℕ). suc (beforeCovering cov P (membersFrom W k (n - (i + 1))))) (end-is W at)
+
+-- what is known of the member at a place where one stands
+pub record Here (W : List ℕ) (at n : ℕ) : Type 0 where
+  pub sound : Sound desk (drop at W)
+  pub most : byte W at ≤ 11
+  pub within : at + (1 + byte W at * 5) ≤ length W
+  pub rest : Standing W (at + (1 + byte W at * 5)) n
+
+pub stands : (W : List ℕ) (at i n : ℕ) → i < n → Standing W at (n - i) → Here W at (n - (i + 1))
+unfolding Standing
+stands W at i n h s =
+    let m : Sound desk (drop at W) × Standing W (memberEnd W at) (n - (i + 1)) =
+    subst (Standing W at) (one-more n i h) s in
+    let e = count-from W at in
+    record {
+      sound = m .0;
+      most = omega (arith, m .0 .most, e);
+      within = omega (arith, m .0 .fits, e, length-drop at W);
+      rest = subst (λ (k : ℕ). Standing W k (n - (i + 1))) (end-is W at) (m .1);
+    }
+
+-- the part of the buffer from there on
+pub part-is : (W : List ℕ) (at : ℕ) → take (length W - at) (drop at W) ≡ drop at W
+part-is W at = take-all (length W - at) (drop at W) (omega (arith, length-drop at W))
+
+-- a member covers P exactly where the search ends before the last
+pub covering-found : (cov : Test) (P : Question) (U : List Question)
+    → covered cov P U ≡ ltb (beforeCovering cov P U) (length U)
+unfolding beforeCovering
+covering-found cov P [] = refl
+covering-found cov P (M ∷ U) = go (cov M P) (covering-found cov P U)
+  where
+    go : (b : Bool) → covered cov P U ≡ ltb (beforeCovering cov P U) (length U)
+        → (b || covered cov P U) ≡ ltb (cond b 0 (suc (beforeCovering cov P U))) (suc (length U))
+    go true e = sym (lt-ltb 0 (suc (length U)) (omega arith))
+    go false e = e ∙ sym (leb·suc-suc (suc (beforeCovering cov P U)) (length U))

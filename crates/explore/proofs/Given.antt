@@ -1,0 +1,157 @@
+-- What follows from the function's contract (`Answers`): its number, its place and its output by cases of the result,
+-- and what there is where the number is 0. Assumes nothing.
+use mathlib.Core.Path.{_≡_, refl, sym, _∙_, ap, ap₂}
+use mathlib.Core.Logic.{_↔_}
+use mathlib.Core.List.{List, _++_}
+use Prim.Native.Nat.{ℕ, _≤_}
+use native.Mathlib.Omega.{arith}
+use lib.ListN.{length, take, drop, length-append, length-drop}
+use lib.Seq.{take-at, drop-at}
+use Rattle.cover.specs.Lists.{_∈_}
+use Rattle.cover.specs.Term.{Question}
+use Rattle.book.specs.Verdict.{Sound}
+use Rattle.explore.specs.Run.{complete}
+use Rattle.explore.specs.Union.{outputSize, total, unionBytes, membersOf, exploredOf}
+use Rattle.explore.specs.Answer.{Result, union, refusal, outcomeOf, result, answer, written, answerOf, writtenOf}
+use Rattle.explore.specs.Answer.{Answers}
+use Rattle.explore.specs.Refusals.{Refuses, Completes}
+use Rattle.explore.proofs.OfBook.{Member, whole, members-most, desk-fits}
+use Rattle.explore.proofs.Written.{union-length, total-most, explored-read, union-round}
+use Rattle.explore.proofs.Refused.{refuses-exactly, completes-exactly, refuses-from, ran-union}
+
+module _ {book out : List ℕ} {number place : ℕ} {after : List ℕ} (given : Answers book out number place after) where
+  abbrev of : Result
+  of = result book (length out)
+
+  number-is : number ≡ answer of .0
+  unfolding answerOf
+  number-is = ap (λ (x : ℕ × ℕ). x .0) (given .answers)
+
+  place-is : place ≡ answer of .1
+  unfolding answerOf
+  place-is = ap (λ (x : ℕ × ℕ). x .1) (given .answers)
+
+  after-is : after ≡ written of out
+  unfolding writtenOf
+  after-is = given .writes
+
+  pub refused-exactly : (n p : ℕ) → 1 ≤ n → ((number ≡ n) × (place ≡ p)) ↔ Refuses book (length out) n p
+  refused-exactly n p one = (λ e. go of refl (sym number-is ∙ e .0) (sym place-is ∙ e .1), back)
+    where
+      go : (r : Result) → of ≡ r → answer of .0 ≡ n → answer of .1 ≡ p → Refuses book (length out) n p
+      go (union U k) e a b =
+          let z : 0 ≡ n = sym (ap (λ (r : Result). answer r .0) e) ∙ a in absurd (omega arith)
+      go (refusal m q) e a b =
+          refuses-exactly book (length out) n p .0
+          (e
+          ∙ ap₂ refusal (sym (ap (λ (r : Result). answer r .0) e) ∙ a) (sym (ap (λ (r : Result). answer r .1) e) ∙ b))
+
+      back : Refuses book (length out) n p → (number ≡ n) × (place ≡ p)
+      back r =
+          let e = refuses-exactly book (length out) n p .1 r in (
+            number-is ∙ ap (λ (x : Result). answer x .0) e,
+            place-is ∙ ap (λ (x : Result). answer x .1) e,
+          )
+
+  -- "Every other number means that no output byte changed."
+  pub refusal-unchanged : 1 ≤ number → after ≡ out
+  refusal-unchanged one = go of refl
+    where
+      go : (r : Result) → of ≡ r → after ≡ out
+      go (union U k) e =
+          let z : number ≡ 0 = number-is ∙ ap (λ (r : Result). answer r .0) e in absurd (omega arith)
+      go (refusal m q) e = after-is ∙ ap (λ (r : Result). written r out) e
+
+  -- What there is where the number is 0.
+  pub record Whole : Type 0 where
+    pub members : List Question
+    pub explored : ℕ
+    pub roomy : outputSize ≤ length out
+    pub sound : Sound book
+    pub ran : outcomeOf book ≡ complete members explored
+    pub is : result book (length out) ≡ union members explored
+
+  module _ (zero : number ≡ 0) where
+    pub all : Whole
+    all = go of refl
+      where
+        go : (r : Result) → of ≡ r → Whole
+        go (union U k) e =
+            let x = ran-union book (length out) e in
+            record { members = U; explored = k; roomy = x .0; sound = x .1; ran = x .2; is = e }
+        go (refusal m q) e =
+            let one = refuses-from book (length out) (refuses-exactly book (length out) m q .0 e) in
+            let z : number ≡ m = number-is ∙ ap (λ (r : Result). answer r .0) e in
+            absurd (omega arith)
+
+    abbrev U : List Question
+    U = all .members
+
+    total-is : place ≡ total U
+    total-is = place-is ∙ ap (λ (r : Result). answer r .1) (all .is)
+
+    bytes-are : after ≡ unionBytes U (all .explored) ++ drop (total U) out
+    bytes-are = after-is ∙ ap (λ (r : Result). written r out) (all .is)
+
+    -- a member of the run
+    pub kind : (M : Question) → M ∈ all .members → Member book M
+    kind M m = whole book (all .sound) (all .ran) .good M m
+
+    pub members-are : membersOf after ≡ all .members
+    members-are =
+        ap membersOf bytes-are
+        ∙ union-round U (all .explored) (drop (total U) out) (λ M m. desk-fits book (all .sound) (kind M m .fits))
+
+    pub explored-is : exploredOf after ≡ all .explored
+    explored-is = ap exploredOf bytes-are ∙ explored-read U (all .explored) (drop (total U) out)
+
+    -- "0 means complete, and the place is the total length written"; "It takes at most .. 2,632 bytes."
+    pub place-most : place ≤ outputSize
+    place-most =
+        let h = total-most U (members-most book (all .sound) (all .ran)) (λ M m. kind M m .fits .most) in
+        omega (arith, total-is)
+
+    pub output-roomy : outputSize ≤ length out
+    output-roomy = all .roomy
+
+    -- "Bytes of the output after the total are not touched."
+    pub rest-untouched : drop place after ≡ drop place out
+    rest-untouched =
+        ap (drop place) bytes-are
+        ∙ drop-at (unionBytes U (all .explored)) (drop (total U) out) place
+        (union-length U (all .explored) ∙ sym total-is)
+        ∙ ap (λ (n : ℕ). drop n out) (sym total-is)
+
+    -- the bytes written say the run's members and its count of explored questions
+    pub the-run : outcomeOf book ≡ complete (membersOf after) (exploredOf after)
+    the-run = all .ran ∙ ap₂ complete (sym members-are) (sym explored-is)
+
+    pub the-bytes : take place after ≡ unionBytes (membersOf after) (exploredOf after)
+    the-bytes =
+        ap (take place) bytes-are
+        ∙ take-at (unionBytes U (all .explored)) (drop (total U) out) place
+        (union-length U (all .explored) ∙ sym total-is)
+        ∙ ap₂ unionBytes (sym members-are) (sym explored-is)
+
+  -- no byte more or less
+  pub same-length : length after ≡ length out
+  same-length = go of refl
+    where
+      go : (r : Result) → of ≡ r → length after ≡ length out
+      go (refusal m q) e = ap length (after-is ∙ ap (λ (r : Result). written r out) e)
+      go (union U k) e =
+          let zero : number ≡ 0 = number-is ∙ ap (λ (r : Result). answer r .0) e in
+          let front = union-length (all zero .members) (all zero .explored) in
+          let whole =
+          length-append (unionBytes (all zero .members) (all zero .explored)) (drop (total (all zero .members)) out) in
+          let back = length-drop (total (all zero .members)) out in
+          let fits = place-most zero in
+          let room = output-roomy zero in
+          ap length (bytes-are zero) ∙ omega (arith, total-is zero)
+
+  -- "0 means complete"
+  pub complete-exactly : (number ≡ 0) ↔ ((U : List Question) × (k : ℕ) × Completes book (length out) U k)
+  complete-exactly = (
+    λ zero. let w = all zero in (w .members, w .explored, completes-exactly book (length out) _ _ .0 (w .is)),
+    λ c. number-is ∙ ap (λ (r : Result). answer r .0) (completes-exactly book (length out) (c .0) (c .1) .1 (c .2)),
+  )

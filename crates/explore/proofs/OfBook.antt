@@ -1,0 +1,139 @@
+-- The run of a sound book: what its members are, and what a complete union is worth. Assumes nothing.
+use mathlib.Core.Path.{_≡_, refl, sym, _∙_}
+use mathlib.Core.Logic.{_↔_}
+use mathlib.Core.List.{List}
+use Prim.Native.Nat.{ℕ, _≤_}
+use native.Mathlib.Omega.{arith}
+use lib.ListN.{length}
+use Rattle.cover.specs.Lists.{_∈_}
+use Rattle.cover.specs.Term.{Question}
+use Rattle.cover.specs.Covers.{Covers}
+use Rattle.cover.specs.Search.{covers}
+use Rattle.cover.specs.Form.{form}
+use Rattle.cover.specs.Record.{desk, Fits}
+use Rattle.cover.proofs.Preorder.{covers-refl, covers-trans}
+use Rattle.cover.proofs.Decides.{covers-decides}
+use Rattle.cover.proofs.Form.{form-equivalent}
+use Rattle.cover.proofs.Same.{form-form}
+use Rattle.book.specs.Rule.{Rule}
+use Rattle.book.specs.Book.{bookOf, layoutOf}
+use Rattle.book.specs.Verdict.{Sound}
+use Rattle.book.proofs.Sound.{sound-header}
+use Rattle.unify.specs.Step.{Below, rewritings}
+use Rattle.unify.proofs.Collected.{gather-in, gather-out}
+use Rattle.explore.specs.Run.{limits, State, complete, apart, allRewritings, runBy, run}
+use Rattle.explore.specs.Steps.{within, Reaches}
+use Rattle.explore.specs.Chain.{SomeHolds, Derives, Reached, first, next}
+use Rattle.explore.proofs.FromCover.{Narrower, wider-fits}
+use Rattle.explore.proofs.Small.{roomFor, fits-below, form-fits, rewriting-formed, rewriting-short}
+use Rattle.explore.proofs.Small.{rewriting-fits}
+use Rattle.explore.proofs.FromBook.{rules-fit, question-some, question-few, question-fits}
+use Rattle.explore.proofs.Covered.{taken-good}
+use Rattle.explore.proofs.Left.{Left, complete-left, complete-most, complete-taken}
+use Rattle.explore.proofs.Derived.{Union, union-answers}
+
+pub run-is : (rules : List Rule) (allowed : ℕ) (Q : Question)
+    → run rules allowed Q ≡ runBy covers limits (allRewritings rules) allowed Q
+unfolding run
+run-is rules allowed Q = refl
+
+module _ (B : List ℕ) where
+  abbrev pub rulesOf : List Rule
+  rulesOf = bookOf B .rules
+
+  abbrev pub questionOf : Question
+  questionOf = bookOf B .question
+
+  -- what each member is: a form of 1 to 8 atoms over the book's relations, places and constants with variables below
+  -- 32, reached from the question
+  pub record Member (M : Question) : Type 0 where
+    pub fits : Fits (layoutOf B) M
+    pub formed : form M ≡ M
+    pub reached : Reached apart (bookOf B .rules) (bookOf B .question) M
+
+  module _ (s : Sound B) where
+    pub first-member : Member (form questionOf)
+    first-member =
+        record {
+          fits = form-fits (layoutOf B) 8 questionOf (question-some B s) (question-few B s) (question-fits B s);
+          formed = form-form questionOf;
+          reached = first refl;
+        }
+
+    pub member-below : {M : Question} → Member M → Below apart M
+    member-below m = fits-below (layoutOf B) (m .fits)
+
+    -- the variables' bound is kept: a rewriting of a member that is short enough to become one is like a member
+    pub next-member : (M : Question) → Member M → (P : Question) → P ∈ allRewritings rulesOf M → length P ≤ 8
+        → Member P
+    next-member M m P x few =
+        let y = gather-out (λ r. rewritings apart r M) rulesOf x in
+        record {
+          fits = rewriting-fits (layoutOf B) {cap = 8} (m .fits) (rules-fit B s (y .0) (y .1)) (y .2) 8 few;
+          formed = rewriting-formed (layoutOf B) {cap = 8} (m .fits) (rules-fit B s (y .0) (y .1)) (y .2);
+          reached = next (y .0) (y .1) (member-below m) (m .reached) (y .2);
+        }
+
+    -- each question that is taken up is a member's like
+    pub taken-member : {M : Question} {Ps : List Question} {t : State} {n : ℕ}
+        → Reaches covers limits (allRewritings (bookOf B .rules)) (bookOf B .allowed) (bookOf B .question)
+        (within M Ps t n)
+        → Member M
+    taken-member c =
+        taken-good covers Covers covers-decides covers-refl (λ A C D. covers-trans) limits (allRewritings rulesOf)
+        (bookOf B .allowed) questionOf Member first-member next-member c
+
+    module _ {U : List Question} {n : ℕ} (e : run rulesOf (bookOf B .allowed) questionOf ≡ complete U n) where
+      by : runBy covers limits (allRewritings rulesOf) (bookOf B .allowed) questionOf ≡ complete U n
+      by = sym (run-is rulesOf (bookOf B .allowed) questionOf) ∙ e
+
+      pub whole : Left Covers (allRewritings rulesOf) questionOf Member U
+      whole =
+          complete-left Covers (allRewritings rulesOf) questionOf Member covers covers-decides covers-refl
+          (λ A C D. covers-trans) limits (bookOf B .allowed) first-member (form-equivalent questionOf .1) next-member
+          by
+
+      pub members-most : length U ≤ 64
+      members-most =
+          complete-most Covers (allRewritings rulesOf) questionOf Member covers covers-decides covers-refl
+          (λ A C D. covers-trans) limits (bookOf B .allowed) first-member (form-equivalent questionOf .1) next-member
+          (omega arith) by
+
+      pub explored-allowed : n ≤ bookOf B .allowed
+      explored-allowed = complete-taken covers limits (allRewritings rulesOf) (bookOf B .allowed) questionOf by
+
+      pub is-union : Union apart rulesOf questionOf U
+      is-union =
+          record {
+            small = λ M m. member-below (whole .good M m);
+            reached = λ M m. whole .good M m .reached;
+            question = whole .question;
+            closed =
+                λ M m r x P y. whole .closed M m P (gather-in (λ q. rewritings apart q M) rulesOf x y);
+          }
+
+      -- for every list of facts some member holds in it exactly when rule application makes the question hold
+      pub run-answers : (F : Question) → SomeHolds U F ↔ Derives rulesOf questionOf F
+      run-answers = union-answers apart rulesOf questionOf U is-union
+
+    -- the desk's record has room for members, and for rewritings of members before they are counted
+    narrower : (m : ℕ) → m ≤ 11 → Narrower (roomFor (layoutOf B) m) desk
+    narrower m h =
+        record {
+          atoms = h;
+          relations = sound-header B s .few-relations;
+          places = omega arith;
+          variables = omega arith;
+          constants = sound-header B s .few-constants;
+        }
+
+    pub desk-fits : {M : Question} → Fits (layoutOf B) M → Fits desk M
+    desk-fits f = wider-fits (narrower 8 (omega arith)) f
+
+    pub rewriting-desk : (M : Question) → Member M → (P : Question) → P ∈ allRewritings rulesOf M → Fits desk P
+    rewriting-desk M m P x =
+        let y = gather-out (λ r. rewritings apart r M) rulesOf x in
+        let f = rules-fit B s (y .0) (y .1) in
+        let h = rewriting-short (layoutOf B) {cap = 8} (m .fits) f (y .2) in
+        wider-fits (narrower 11 (omega arith))
+        (rewriting-fits (layoutOf B) {cap = 8} (m .fits) f (y .2) 11 (omega arith))

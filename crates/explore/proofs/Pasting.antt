@@ -1,0 +1,80 @@
+-- Laws of a copy into a working array (`paste`), and of the record that a buffer begins with. Assumes nothing.
+use mathlib.Core.Path.{_≡_, refl, sym, _∙_, ap, ap₂, subst}
+use mathlib.Core.List.{List, [], _∷_, _++_, append-assoc}
+use Prim.Native.Nat.{ℕ, zero, suc, _+_, _*_, _-_, _/_, _%_, _≤_, _<_}
+use native.Mathlib.Omega.{arith}
+use native.Mathlib.Numerals.{add-one}
+use lib.ListN.{length, getD, set, take, drop}
+use lib.Seq.{paste, paste-suc, drop-paste, getD-drop, drop-cons, drop-drop, sets-eq}
+use Rattle.cover.specs.Record.{desk, size, questionOf, recordBytes, Sound}
+use Rattle.cover.proofs.RoundTrip.{atoms-back}
+use Rattle.cover.proofs.Padded.{desk-apart}
+use Rattle.explore.specs.Union.{wordBytes}
+use Rattle.explore.proofs.FromCover.{atoms-count, record-size}
+
+-- one byte more is copied
+pub paste-more : (d : List ℕ) (at : ℕ) (s : List ℕ) (j k : ℕ) → at + j ≡ k → k < length d → j < length s
+    → set (paste d at s j) k (getD s j 0) ≡ paste d at s (j + 1)
+paste-more d at s j k e hd hs =
+    subst (λ (n : ℕ). set (paste d at s j) n (getD s j 0) ≡ paste d at s (j + 1)) e
+    (paste-suc d at s j 0 (omega arith) hs ∙ ap (paste d at s) (sym (add-one j)))
+
+-- the bytes after those copied are as they were
+pub paste-past : (d : List ℕ) (at : ℕ) (s : List ℕ) (n k : ℕ) → at ≤ length d → n ≤ length s → at + n ≤ k
+    → getD (paste d at s n) k 0 ≡ getD d k 0
+paste-past d at s n k hd hs h =
+    ap (λ (m : ℕ). getD (paste d at s n) m 0) e
+    ∙ sym (getD-drop (at + n) (paste d at s n) (k - (at + n)) 0)
+    ∙ ap (λ (l : List ℕ). getD l (k - (at + n)) 0) (drop-paste d at s n hd hs)
+    ∙ getD-drop (at + n) d (k - (at + n)) 0
+    ∙ ap (λ (m : ℕ). getD d m 0) (sym e)
+  where
+    e : k ≡ at + n + (k - (at + n))
+    e = omega arith
+
+-- the record that a sound buffer begins with is the record of its question
+pub begun-record : (B : List ℕ) → Sound desk B
+    → take (1 + getD B 0 0 * size desk) B ≡ recordBytes desk (questionOf desk B)
+unfolding recordBytes questionOf
+begun-record B s =
+    ap (λ (m : ℕ). take m B) one
+    ∙ ap (take (suc (getD B 0 0 * size desk))) (drop-cons B 0 0 (omega (arith, s .fits)))
+    ∙ ap₂ _∷_ (sym (atoms-count desk B 1 (getD B 0 0)))
+    (sym (atoms-back desk desk-apart B (getD B 0 0) 1 (s .fits) (s .atoms)))
+  where
+    one : 1 + getD B 0 0 * size desk ≡ suc (getD B 0 0 * size desk)
+    one = omega arith
+
+pub begun-width : (B : List ℕ) → length (recordBytes desk (questionOf desk B)) ≡ 1 + getD B 0 0 * 5
+unfolding questionOf
+begun-width B = record-size desk (questionOf desk B) ∙ ap (λ (n : ℕ). 1 + n * 5) (atoms-count desk B 1 (getD B 0 0))
+
+-- two bytes stored one after the other are a word
+pub word-put : (W : List ℕ) (at n : ℕ) → at + 2 ≤ length W
+    → set (set W at (n % 256)) (at + 1) (n / 256) ≡ take at W ++ (wordBytes n ++ drop (at + 2) W)
+word-put W at n h =
+    ap (λ (k : ℕ). set (set W at (n % 256)) k (n / 256)) (add-one at)
+    ∙ sets-eq (wordBytes n) W at h
+    ∙ append-assoc (take at W) (wordBytes n) (drop (at + 2) W)
+
+-- four words put one after the other at the front
+pub header-put : (W A B C D : List ℕ) (a b c d : ℕ) → A ≡ take 0 W ++ (wordBytes a ++ drop (0 + 2) W)
+    → B ≡ take 2 A ++ (wordBytes b ++ drop (2 + 2) A) → C ≡ take 4 B ++ (wordBytes c ++ drop (4 + 2) B)
+    → D ≡ take 6 C ++ (wordBytes d ++ drop (6 + 2) C)
+    → D ≡ wordBytes a ++ (wordBytes b ++ (wordBytes c ++ (wordBytes d ++ drop 8 W)))
+header-put W A B C D a b c d p q r s =
+    s
+    ∙ ap (λ (l : List ℕ). take 6 l ++ (wordBytes d ++ drop 8 l)) three
+    ∙ ap (λ (l : List ℕ). wordBytes a ++ (wordBytes b ++ (wordBytes c ++ (wordBytes d ++ l)))) (drop-drop 2 6 W)
+  where
+    two : B ≡ wordBytes a ++ (wordBytes b ++ drop 4 W)
+    two =
+        q
+        ∙ ap (λ (l : List ℕ). take 2 l ++ (wordBytes b ++ drop 4 l)) p
+        ∙ ap (λ (l : List ℕ). wordBytes a ++ (wordBytes b ++ l)) (drop-drop 2 2 W)
+
+    three : C ≡ wordBytes a ++ (wordBytes b ++ (wordBytes c ++ drop 6 W))
+    three =
+        r
+        ∙ ap (λ (l : List ℕ). take 4 l ++ (wordBytes c ++ drop 6 l)) two
+        ∙ ap (λ (l : List ℕ). wordBytes a ++ (wordBytes b ++ (wordBytes c ++ l))) (drop-drop 2 4 W)

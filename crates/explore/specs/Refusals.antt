@@ -1,0 +1,39 @@
+-- When a book and an output are refused (01, "Refusal numbers"), as a statement over all that applies and over the
+-- run's single steps. `Answer` computes the same: `proofs/Refused` shows that the one holds exactly when the other
+-- does.
+use mathlib.Core.Path.{_≡_}
+use mathlib.Core.Logic.{_⊎_}
+use mathlib.Core.List.{List}
+use Prim.Native.Nat.{ℕ, _≤_, _<_}
+use Rattle.cover.specs.Term.{Question}
+use Rattle.cover.specs.Search.{covers}
+use Rattle.book.specs.Book.{bookOf}
+use Rattle.book.specs.Refusals.{Applies as OfBook}
+use Rattle.explore.specs.Run.{limits, Why, number, Outcome, complete, refused, allRewritings}
+use Rattle.explore.specs.Steps.{Ends}
+use Rattle.explore.specs.Union.{outputSize}
+
+-- "| no. | when | place |", 1 to 7
+pub data Applies (B : List ℕ) (room : ℕ) : ℕ → ℕ → Type 0 where
+  -- 1: "output under 2,632 bytes", at 0
+  one : room < outputSize → Applies B room 1 0
+  -- 2 to 7 are the book's
+  of-book : {n p : ℕ} → OfBook B n p → Applies B room n p
+
+-- the run of the book ends so
+abbrev pub RunEnds : List ℕ → Outcome → Type 0
+RunEnds B o = Ends covers limits (allRewritings (bookOf B .rules)) (bookOf B .allowed) (bookOf B .question) o
+
+-- number n at place p
+pub data Refuses (B : List ℕ) (room n p : ℕ) : Type 0 where
+  -- "The smallest applicable number among 1 to 7 wins, and within it the earliest place."
+  smallest : Applies B room n p → ((m q : ℕ) → Applies B room m q → (n < m) ⊎ ((n ≡ m) × (p ≤ q)))
+      → Refuses B room n p
+  -- "Then 8 to 10 come as the exploration meets them, 8 before 9."
+  met : ((m q : ℕ) → Applies B room m q → ⊥) → (w : Why) → n ≡ number w → RunEnds B (refused w p)
+      → Refuses B room n p
+
+-- "0 means complete"
+pub record Completes (B : List ℕ) (room : ℕ) (U : List Question) (explored : ℕ) : Type 0 where
+  pub nothing : (m q : ℕ) → Applies B room m q → ⊥
+  pub ends : RunEnds B (complete U explored)
