@@ -1,0 +1,144 @@
+//! The stored book: reading it and writing it. Where its parts stand is in `layout`, what
+//! is refused in `refuse`.
+
+use crate::layout::{self, Header, RuleAt, ATOM, FIRST_CONSTANT, HEADER, UNUSED};
+use crate::refuse::{faults, least, Fault};
+use crate::seen::{Behaviour, Seen};
+use crate::term::{Atom, Question, Rule, Term};
+
+/// A sound book.
+#[derive(Clone, Debug, PartialEq, Eq)]
+pub struct Book {
+    /// The number of places of each relation.
+    pub relations: Vec<usize>,
+    pub constants: usize,
+    pub rules: Vec<Rule>,
+    pub question: Question,
+    /// Explorations allowed, L.
+    pub allowed: usize,
+}
+
+/// Reads a book: the book, or the least (number, place) that applies.
+pub fn read(bytes: &[u8], seen: &mut Seen) -> Result<Book, Fault> {
+    let faults = faults(bytes);
+    match least(&faults) {
+        None => {
+            let book = decode(bytes);
+            mark_limits(&book, bytes.len(), seen);
+            Ok(book)
+        }
+        Some(least) => {
+            mark_faults(&faults, least, seen);
+            Err(*least)
+        }
+    }
+}
+
+/// The book that these bytes hold, given that nothing is wrong with them.
+fn decode(bytes: &[u8]) -> Book {
+    let header = Header::of(bytes).unwrap();
+    let places = &bytes[HEADER..HEADER + header.relations];
+    let rules = layout::rules(&header, bytes).found;
+    let question = bytes[header.question_at..].chunks(ATOM);
+    Book {
+        relations: places.iter().map(|&places| places as usize).collect(),
+        constants: header.constants,
+        rules: rules.iter().map(|rule| decode_rule(bytes, rule)).collect(),
+        question: question.map(decode_atom).collect(),
+        allowed: header.allowed,
+    }
+}
+
+/// The rule that stands there.
+fn decode_rule(bytes: &[u8], rule: &RuleAt) -> Rule {
+    let atom = |&at: &usize| decode_atom(&bytes[at..at + ATOM]);
+    Rule {
+        body: rule.body.iter().map(atom).collect(),
+        head: rule.head.iter().map(atom).collect(),
+    }
+}
+
+/// The atom that five bytes hold.
+pub fn decode_atom(bytes: &[u8]) -> Atom {
+    let used = bytes[1..].iter().take_while(|&&byte| byte != UNUSED);
+    let terms = used.map(|&byte| match byte {
+        FIRST_CONSTANT.. => Term::Constant((byte - FIRST_CONSTANT) as usize),
+        _ => Term::Variable(byte as usize),
+    });
+    Atom::new(bytes[0] as usize, terms.collect())
+}
+
+/// The five bytes of an atom.
+pub fn encode_atom(atom: &Atom) -> [u8; ATOM] {
+    let mut bytes = [UNUSED; ATOM];
+    bytes[0] = atom.relation as u8;
+    for (byte, term) in bytes[1..].iter_mut().zip(&atom.terms) {
+        *byte = match term {
+            Term::Variable(v) => *v as u8,
+            Term::Constant(c) => FIRST_CONSTANT + *c as u8,
+        };
+    }
+    bytes
+}
+
+/// The bytes of a rule: "two bytes, the body's and the head's atom counts, then body
+/// atoms, then head atoms".
+fn encode_rule(rule: &Rule) -> Vec<u8> {
+    let mut bytes = vec![rule.body.len() as u8, rule.head.len() as u8];
+    let atoms = rule.body.iter().chain(&rule.head);
+    atoms.for_each(|atom| bytes.extend(encode_atom(atom)));
+    bytes
+}
+
+/// The bytes of a book.
+pub fn write(book: &Book) -> Vec<u8> {
+    let rules: Vec<u8> = book.rules.iter().flat_map(encode_rule).collect();
+    let rules_at = HEADER + book.relations.len();
+    let question_at = rules_at + rules.len();
+    let words = [
+        book.relations.len(),
+        book.constants,
+        book.rules.len(),
+        book.question.len(),
+        book.allowed,
+        HEADER,
+        rules_at,
+        question_at,
+        question_at + ATOM * book.question.len(),
+    ];
+    let mut bytes: Vec<u8> = Vec::new();
+    for word in words {
+        bytes.extend((word as u16).to_le_bytes());
+    }
+    bytes.extend(book.relations.iter().map(|&places| places as u8));
+    bytes.extend(rules);
+    bytes.extend(book.question.iter().flat_map(encode_atom));
+    bytes
+}
+
+/// Counts what the faults of a refused book show.
+fn mark_faults(faults: &[Fault], least: &Fault, seen: &mut Seen) {
+    for fault in faults {
+        let winning = (fault.number, fault.place) == (least.number, least.place);
+        seen.mark_if(winning, fault.why);
+    }
+    seen.mark_if(least.place > 255, Behaviour::BookPlaceOver255);
+    let numbers = faults.iter().any(|f| f.number != least.number);
+    seen.mark_if(numbers, Behaviour::CompetingNumbers);
+    let mut alike = faults.iter().filter(|f| f.number == least.number);
+    let places = alike.any(|f| f.place != least.place);
+    seen.mark_if(places, Behaviour::CompetingPlaces);
+}
+
+/// Counts which limits a sound book is at.
+fn mark_limits(book: &Book, length: usize, seen: &mut Seen) {
+    seen.mark_if(book.relations.len() == 64, Behaviour::Relations64);
+    seen.mark_if(book.constants == 127, Behaviour::Constants127);
+    seen.mark_if(book.rules.len() == 32, Behaviour::Rules32);
+    seen.mark_if(book.rules.is_empty(), Behaviour::Rules0);
+    seen.mark_if(book.question.len() == 8, Behaviour::Question8);
+    seen.mark_if(book.allowed == 1, Behaviour::Allowed1);
+    seen.mark_if(book.allowed == 1000, Behaviour::Allowed1000);
+    seen.mark_if(length == 1466, Behaviour::LargestBook);
+    seen.mark_if(length == 24, Behaviour::SmallestBook);
+}

@@ -1,0 +1,47 @@
+//! The search desk: covering on member records.
+
+use crate::book::decode_atom;
+use crate::cover::covers as covers_question;
+use crate::layout::{ATOM, FIRST_CONSTANT, UNUSED};
+use crate::term::Question;
+
+/// "0 no, 1 yes, 2 first malformed, 3 second malformed; 2 wins."
+pub fn covers(first: &[u8], second: &[u8]) -> u8 {
+    let Some(first) = question_of(first) else {
+        return 2;
+    };
+    let Some(second) = question_of(second) else {
+        return 3;
+    };
+    covers_question(&first, &second) as u8
+}
+
+/// The record that covers the other, as a part of its own buffer. "Equivalent records
+/// give the first. Malformed or incomparable ones give the empty part at the first's
+/// start."
+pub fn keep<'r>(first: &'r [u8], second: &'r [u8]) -> &'r [u8] {
+    match (covers(first, second), covers(second, first)) {
+        (1, _) => first,
+        (_, 1) => second,
+        _ => &first[..0],
+    }
+}
+
+/// The question of a record: "1 to 11 atoms and exactly fitting length".
+pub fn question_of(record: &[u8]) -> Option<Question> {
+    let (&count, atoms) = record.split_first()?;
+    let fits = (1..=11).contains(&count) && atoms.len() == ATOM * count as usize;
+    if !fits || !atoms.chunks(ATOM).all(is_atom) {
+        return None;
+    }
+    Some(atoms.chunks(ATOM).map(decode_atom).collect())
+}
+
+/// "relations 0 to 63, first one to four places used with 0 to 63 or 128 to 254, the
+/// rest 255"
+fn is_atom(bytes: &[u8]) -> bool {
+    let places = &bytes[1..];
+    let is_used = |byte: &u8| *byte < 64 || (FIRST_CONSTANT..UNUSED).contains(byte);
+    let used = places.iter().take_while(|byte| is_used(byte)).count();
+    bytes[0] < 64 && used >= 1 && places[used..].iter().all(|&byte| byte == UNUSED)
+}

@@ -1,0 +1,36 @@
+//! A second program for Rauntiko, written from the build paper by its words and
+//! not from the proved code: brute force where that is more plainly right.
+//!
+//! Reading order: `term`, `cover`, `form`, `unify`, `explore` say what a run is;
+//! `book`, `union`, `run`, `print` put it into bytes; `desk` is the search desk.
+//! `source` is the text form of books. `generate`, `damage`, `limits`, `seen`,
+//! `against` and `shrink` serve the comparer; `chase` and `ledger` the second check
+//! of what a complete union promises.
+
+pub mod against;
+pub mod book;
+pub mod chase;
+pub mod compare;
+pub mod cover;
+pub mod damage;
+pub mod desk;
+pub mod explore;
+pub mod form;
+pub mod generate;
+pub mod layout;
+pub mod ledger;
+pub mod limits;
+pub mod pairs;
+pub mod print;
+pub mod random;
+pub mod refuse;
+pub mod run;
+pub mod seen;
+pub mod shapes;
+pub mod shrink;
+pub mod source;
+pub mod term;
+pub mod unify;
+pub mod union;
+pub mod watch;
+pub mod way;

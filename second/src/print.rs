@@ -1,0 +1,58 @@
+//! What the printing program prints.
+
+use crate::run::{run_by, Answer};
+use crate::seen::Seen;
+use crate::term::{Atom, Question, Term};
+use crate::union::{self, OUTPUT_ROOM};
+use crate::way::Way;
+
+/// The most bytes of its input that the program reads.
+pub const INPUT: usize = 65_536;
+
+/// What is printed for this input.
+pub fn print(input: &[u8]) -> String {
+    print_by(input, Way::Right, &mut Seen::default())
+}
+
+/// The same in a given way, counting what is met.
+pub fn print_by(input: &[u8], way: Way, seen: &mut Seen) -> String {
+    let book = &input[..input.len().min(INPUT)];
+    let mut output = [0; OUTPUT_ROOM];
+    let answer = run_by(book, &mut output, way, seen);
+    print_answer(answer, &output)
+}
+
+/// The lines for an answer and its output: "The first line has members and explored;
+/// each other line is a member", or a refusal's "number, then place".
+fn print_answer(answer: Answer, output: &[u8]) -> String {
+    if answer.number != 0 {
+        return format!("refused {} at {}\n", answer.number, answer.place);
+    }
+    let (members, explored) = union::read(&output[..answer.place]);
+    let mut text = format!("members {} explored {}\n", members.len(), explored);
+    for member in &members {
+        text += &print_question(member);
+        text.push('\n');
+    }
+    text
+}
+
+/// A question's atoms, a space between two.
+pub fn print_question(question: &Question) -> String {
+    let atoms: Vec<String> = question.iter().map(print_atom).collect();
+    atoms.join(" ")
+}
+
+/// An atom "as relation number and terms (v variable, c constant)".
+pub fn print_atom(atom: &Atom) -> String {
+    let terms: Vec<String> = atom.terms.iter().map(print_term).collect();
+    format!("r{}({})", atom.relation, terms.join(","))
+}
+
+/// A term, such as v0 or c0.
+fn print_term(term: &Term) -> String {
+    match term {
+        Term::Variable(v) => format!("v{v}"),
+        Term::Constant(c) => format!("c{c}"),
+    }
+}

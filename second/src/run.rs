@@ -1,0 +1,46 @@
+//! Running one book from bytes to bytes.
+
+use crate::book;
+use crate::explore::{explore_by, Outcome};
+use crate::seen::{Behaviour, Seen};
+use crate::union::{self, OUTPUT_ROOM};
+use crate::way::Way;
+
+/// "The answer is a number and a place."
+#[derive(Clone, Copy, Debug, PartialEq, Eq)]
+pub struct Answer {
+    pub number: usize,
+    pub place: usize,
+}
+
+/// Runs a book: 0 with the union's length, the union standing at the output's start;
+/// or a refusal, and "no output byte changed".
+pub fn run(book: &[u8], output: &mut [u8]) -> Answer {
+    run_by(book, output, Way::Right, &mut Seen::default())
+}
+
+/// The same in a given way, counting what is met.
+pub fn run_by(bytes: &[u8], output: &mut [u8], way: Way, seen: &mut Seen) -> Answer {
+    if output.len() < OUTPUT_ROOM {
+        seen.mark(Behaviour::OutputTooSmall);
+        return answer(1, 0);
+    }
+    let book = match book::read(bytes, seen) {
+        Ok(book) => book,
+        Err(fault) => return answer(fault.number, fault.place),
+    };
+    match explore_by(&book, way, seen) {
+        Outcome::Refused { number, place } => answer(number, place),
+        Outcome::Complete { members, explored } => {
+            let union = union::write(&members, explored);
+            output[..union.len()].copy_from_slice(&union);
+            seen.mark_if(union.len() == OUTPUT_ROOM, Behaviour::LargestUnion);
+            answer(0, union.len())
+        }
+    }
+}
+
+/// An answer of this number and place.
+fn answer(number: usize, place: usize) -> Answer {
+    Answer { number, place }
+}

@@ -1,0 +1,163 @@
+//! Making a book on which two programs differ small enough to read.
+
+use crate::book::{self, Book};
+use crate::seen::Seen;
+use crate::term::{variables, Atom, Rule, Term};
+
+/// Bytes that are a little smaller than these: of a sound book sound ones, else the bytes
+/// with a part taken out.
+pub fn smaller_bytes(bytes: &[u8]) -> Vec<Vec<u8>> {
+    match book::read(bytes, &mut Seen::default()) {
+        Ok(book) => smaller(&book).iter().map(book::write).collect(),
+        Err(_) => without_parts(bytes),
+    }
+}
+
+/// The bytes without one part, large parts first. Of very long bytes only large parts.
+fn without_parts(bytes: &[u8]) -> Vec<Vec<u8>> {
+    let mut all = Vec::new();
+    let length = bytes.len();
+    for part in [length / 2, length / 8, 12, 5, 2, 1] {
+        let few = part > 0 && (length < 400 || part > length / 10);
+        for at in (0..length).step_by(part.max(1)).filter(|_| few) {
+            let end = (at + part).min(length);
+            all.push([&bytes[..at], &bytes[end..]].concat());
+        }
+    }
+    all
+}
+
+/// Books that are a little smaller than this one, the most smaller first.
+pub fn smaller(book: &Book) -> Vec<Book> {
+    let mut books = Vec::new();
+    books.extend(without_rules(book));
+    books.extend(without_atoms(book));
+    books.extend(with_fewer_variables(book));
+    books.extend(without_relations(book));
+    books.extend(without_constants(book));
+    books
+}
+
+/// The book changed in place.
+fn with(book: &Book, change: impl FnOnce(&mut Book)) -> Book {
+    let mut book = book.clone();
+    change(&mut book);
+    book
+}
+
+/// Without one of the rules.
+fn without_rules(book: &Book) -> Vec<Book> {
+    (0..book.rules.len())
+        .map(|i| with(book, |b| drop(b.rules.remove(i))))
+        .collect()
+}
+
+/// Without one atom of the question, a head or a body.
+fn without_atoms(book: &Book) -> Vec<Book> {
+    let mut books = Vec::new();
+    if book.question.len() > 1 {
+        let without = |i| with(book, |b| drop(b.question.remove(i)));
+        books.extend((0..book.question.len()).map(without));
+    }
+    for (r, rule) in book.rules.iter().enumerate() {
+        if rule.head.len() > 1 {
+            let without = |i| with(book, |b| drop(b.rules[r].head.remove(i)));
+            books.extend((0..rule.head.len()).map(without));
+        }
+        if rule.body.len() > 1 {
+            let without = |i| with(book, |b| drop(b.rules[r].body.remove(i)));
+            books.extend((0..rule.body.len()).map(without));
+        }
+    }
+    books
+}
+
+/// With two variables of a rule or of the question made one.
+fn with_fewer_variables(book: &Book) -> Vec<Book> {
+    let mut books = Vec::new();
+    for (v, w) in pairs(&book.question) {
+        books.push(with(book, |b| replace(&mut b.question, v, w)));
+    }
+    for (r, rule) in book.rules.iter().enumerate() {
+        let atoms: Vec<Atom> = rule.body.iter().chain(&rule.head).cloned().collect();
+        for (v, w) in pairs(&atoms) {
+            books.push(with(book, |b| {
+                replace(&mut b.rules[r].body, v, w);
+                replace(&mut b.rules[r].head, v, w);
+            }));
+        }
+    }
+    books
+}
+
+/// Pairs of different variables, the greater first.
+fn pairs(atoms: &[Atom]) -> Vec<(usize, usize)> {
+    let found: Vec<usize> = variables(atoms).into_iter().collect();
+    let mut pairs = Vec::new();
+    for (i, &w) in found.iter().enumerate() {
+        pairs.extend(found[i + 1..].iter().map(|&v| (v, w)));
+    }
+    pairs
+}
+
+/// Puts one variable in the place of another.
+fn replace(atoms: &mut [Atom], from: usize, to: usize) {
+    for atom in atoms {
+        *atom = atom.map(|t| match t == Term::Variable(from) {
+            true => Term::Variable(to),
+            false => t,
+        });
+    }
+}
+
+/// Every atom of the book, to be changed.
+fn each_atom(book: &mut Book, mut change: impl FnMut(&mut Atom)) {
+    let of_rule = |rule: &mut Rule, change: &mut dyn FnMut(&mut Atom)| {
+        rule.body.iter_mut().for_each(&mut *change);
+        rule.head.iter_mut().for_each(&mut *change);
+    };
+    for rule in &mut book.rules {
+        of_rule(rule, &mut change);
+    }
+    book.question.iter_mut().for_each(&mut change);
+}
+
+/// Without one relation that stands nowhere.
+fn without_relations(book: &Book) -> Vec<Book> {
+    let mut used = vec![false; book.relations.len()];
+    each_atom(&mut book.clone(), |atom| used[atom.relation] = true);
+    let unused = (0..used.len()).filter(|&r| !used[r] && used.len() > 1);
+    unused
+        .map(|r| {
+            with(book, |b| {
+                b.relations.remove(r);
+                each_atom(b, |atom| atom.relation -= (atom.relation > r) as usize);
+            })
+        })
+        .collect()
+}
+
+/// Without one constant that stands nowhere.
+fn without_constants(book: &Book) -> Vec<Book> {
+    let mut used = vec![false; book.constants];
+    each_atom(&mut book.clone(), |atom| {
+        for term in &atom.terms {
+            if let Term::Constant(c) = term {
+                used[*c] = true;
+            }
+        }
+    });
+    let lower = |gone: usize, term: Term| match term {
+        Term::Constant(c) if c > gone => Term::Constant(c - 1),
+        _ => term,
+    };
+    (0..used.len())
+        .filter(|&c| !used[c])
+        .map(|gone| {
+            with(book, |b| {
+                b.constants -= 1;
+                each_atom(b, |atom| *atom = atom.map(|t| lower(gone, t)));
+            })
+        })
+        .collect()
+}

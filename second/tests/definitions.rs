@@ -1,0 +1,380 @@
+//! The second program's own parts against plainer definitions, on many small cases.
+
+mod common;
+
+use second::book::Book;
+use second::cover::{covers, equivalent};
+use second::explore::{explore, Outcome};
+use second::form::form;
+use second::random::Random;
+use second::seen::Seen;
+use second::term::{variables, Atom, Question, Rule, Term};
+use second::unify::{
+    choice_count, digits_of, for_each_choice, of_question, of_rule, Apart, Choice, Classes,
+};
+use second::{generate, unify};
+use std::collections::{BTreeMap, BTreeSet};
+
+/// An atom of relation 0 or 1, of one and two places, over few terms.
+fn atom(random: &mut Random, variables: usize, constants: usize) -> Atom {
+    let relation = random.below(2);
+    let terms = (0..relation + 1).map(|_| match random.percent(20) && constants > 0 {
+        true => Term::Constant(random.below(constants)),
+        false => Term::Variable(random.below(variables)),
+    });
+    Atom::new(relation, terms.collect())
+}
+
+/// So many atoms.
+fn atoms(random: &mut Random, many: usize, variables: usize) -> Vec<Atom> {
+    (0..many).map(|_| atom(random, variables, 2)).collect()
+}
+
+/// Every term of these atoms, once.
+fn terms(atoms: &[Atom]) -> Vec<Term> {
+    let set: BTreeSet<Term> = atoms.iter().flat_map(|a| a.terms.clone()).collect();
+    set.into_iter().collect()
+}
+
+/// Covering once more: every map of A's variables to B's terms, one after the other.
+fn covers_by_maps(a: &[Atom], b: &[Atom]) -> bool {
+    let (from, to) = (Vec::from_iter(variables(a)), terms(b));
+    let count = (to.len() as u64).pow(from.len() as u32);
+    (0..count).any(|number| {
+        let mut rest = number;
+        let mut map = BTreeMap::new();
+        for v in &from {
+            map.insert(*v, to[(rest % to.len() as u64) as usize]);
+            rest /= to.len() as u64;
+        }
+        a.iter().all(|atom| {
+            b.contains(&atom.map(|t| match t {
+                Term::Variable(v) => map[&v],
+                Term::Constant(_) => t,
+            }))
+        })
+    })
+}
+
+#[test]
+fn covering_is_that_some_map_exists() {
+    let mut random = Random::new(11);
+    let mut yes = 0;
+    for _ in 0..20_000 {
+        let (many, more) = (random.between(1, 4), random.between(1, 5));
+        let a = atoms(&mut random, many, 4);
+        let b = atoms(&mut random, more, 3);
+        assert_eq!(covers(&a, &b), covers_by_maps(&a, &b), "{a:?} {b:?}");
+        yes += covers(&a, &b) as usize;
+    }
+    assert!(yes > 1000);
+}
+
+#[test]
+fn covering_is_reflexive_and_transitive() {
+    let mut random = Random::new(12);
+    for _ in 0..5000 {
+        let [a, b, c] = [0; 3].map(|_| {
+            let many = random.between(1, 3);
+            atoms(&mut random, many, 3)
+        });
+        assert!(covers(&a, &a));
+        assert!(!(covers(&a, &b) && covers(&b, &c)) || covers(&a, &c));
+    }
+}
+
+#[test]
+fn a_form_is_equivalent_and_its_own_form() {
+    let mut random = Random::new(13);
+    for _ in 0..5000 {
+        let many = random.between(1, 6);
+        let a = atoms(&mut random, many, 6);
+        assert!(equivalent(&a, &form(&a)));
+        assert_eq!(form(&form(&a)), form(&a));
+        let renamed: Vec<Atom> = a
+            .iter()
+            .map(|atom| {
+                atom.map(|t| match t {
+                    Term::Variable(v) => Term::Variable(31 - v),
+                    Term::Constant(_) => t,
+                })
+            })
+            .collect();
+        assert_eq!(form(&renamed), form(&a));
+    }
+}
+
+#[test]
+fn the_choices_are_all_numbers_whose_relations_agree() {
+    let mut random = Random::new(14);
+    for _ in 0..500 {
+        let (n, h) = (random.between(1, 4), random.between(1, 4));
+        let (question, rule) = (atoms(&mut random, n, 3), rule(&mut random, h));
+        let mut visited = Vec::new();
+        for_each_choice(&question, &rule, &mut |number, choice| {
+            assert_eq!(choice.digits, digits_of(number, h, n));
+            visited.push(number);
+            true
+        });
+        let agrees = |number: &u64| {
+            let digits = digits_of(*number, h, n);
+            let mut pairs = digits.iter().zip(&question).filter(|(d, _)| **d > 0);
+            pairs.all(|(d, atom)| rule.head[*d - 1].relation == atom.relation)
+        };
+        let all: Vec<u64> = (1..choice_count(h, n)).filter(agrees).collect();
+        assert_eq!(visited, all);
+    }
+}
+
+/// A rule with so many head atoms.
+fn rule(random: &mut Random, head: usize) -> Rule {
+    let many = random.between(1, 2);
+    Rule {
+        body: atoms(random, many, 2),
+        head: atoms(random, head, 4),
+    }
+}
+
+/// The classes once more: terms related by a chain of pairs.
+fn classes_by_chains(choice: &Choice) -> BTreeSet<BTreeSet<Apart>> {
+    let mut pairs: BTreeSet<(Apart, Apart)> = BTreeSet::new();
+    for (atom, head) in choice.sent() {
+        for (&t, &u) in atom.terms.iter().zip(&head.terms) {
+            let (t, u) = (of_question(t), of_rule(u));
+            pairs.extend([(t, u), (u, t), (t, t), (u, u)]);
+        }
+    }
+    loop {
+        let mut more = pairs.clone();
+        for (a, b) in &pairs {
+            for (c, d) in &pairs {
+                if b == c {
+                    more.insert((*a, *d));
+                }
+            }
+        }
+        if more == pairs {
+            break;
+        }
+        pairs = more;
+    }
+    let class = |t: Apart| pairs.iter().filter(move |(a, _)| *a == t).map(|(_, b)| *b);
+    pairs.iter().map(|(t, _)| class(*t).collect()).collect()
+}
+
+#[test]
+fn classes_are_as_coarse_as_required_and_no_coarser() {
+    let mut random = Random::new(15);
+    for _ in 0..300 {
+        let (n, h) = (random.between(1, 3), random.between(1, 3));
+        let (question, rule) = (atoms(&mut random, n, 3), rule(&mut random, h));
+        for_each_choice(&question, &rule, &mut |_, choice| {
+            let classes = choice.classes().into_iter();
+            let made: BTreeSet<BTreeSet<Apart>> =
+                classes.map(|class| class.into_iter().collect()).collect();
+            assert_eq!(made, classes_by_chains(choice));
+            true
+        });
+    }
+}
+
+/// A piece-unifier by Definition 11 of source document 000: a part of the question, a part
+/// of the head, and a partition of their terms.
+struct Unifier {
+    sent: Vec<bool>,
+    partition: Classes,
+}
+
+/// Every partition of these terms.
+fn partitions(terms: &[Apart]) -> Vec<Classes> {
+    let Some((last, before)) = terms.split_last() else {
+        return vec![Vec::new()];
+    };
+    let mut all = Vec::new();
+    for partition in partitions(before) {
+        for i in 0..partition.len() {
+            let mut joined = partition.clone();
+            joined[i].push(*last);
+            all.push(joined);
+        }
+        let mut alone = partition;
+        alone.push(vec![*last]);
+        all.push(alone);
+    }
+    all
+}
+
+/// The items of a list that a number's bits name.
+fn picked<T: Clone>(items: &[T], bits: usize) -> Vec<T> {
+    let named = items.iter().enumerate().filter(|(i, _)| bits >> i & 1 == 1);
+    named.map(|(_, item)| item.clone()).collect()
+}
+
+/// An atom's terms replaced by the first of their classes.
+fn merged(atom: &Atom, apart: fn(Term) -> Apart, partition: &Classes) -> (usize, Vec<Apart>) {
+    let first = |t: Apart| {
+        partition
+            .iter()
+            .find(|c| c.contains(&t))
+            .map_or(t, |c| c[0])
+    };
+    let terms = atom.terms.iter().map(|&t| first(apart(t))).collect();
+    (atom.relation, terms)
+}
+
+/// Whether this is a piece-unifier: admissible, unknowns only with non-separating
+/// variables of the part, and the parts made the same set of atoms.
+fn is_unifier(rule: &Rule, part: &[Atom], head: &[Atom], rest: &[Atom], p: &Classes) -> bool {
+    let left = variables(rest);
+    let sound = |class: &Vec<Apart>| {
+        let constants = class.iter().filter(|t| unify::is_constant(t)).count();
+        let unknown = |t: &Apart| matches!(t, Apart::OfRule(v) if rule.is_existential(*v));
+        let unknowns = class.iter().filter(|t| unknown(t)).count();
+        let harmless = |t: &Apart| matches!(t, Apart::OfQuestion(v) if !left.contains(v));
+        let others = class.iter().filter(|t| !unknown(t));
+        constants <= 1 && (unknowns == 0 || unknowns == 1 && others.clone().all(harmless))
+    };
+    let sent: BTreeSet<_> = part.iter().map(|a| merged(a, of_question, p)).collect();
+    let met: BTreeSet<_> = head.iter().map(|a| merged(a, of_rule, p)).collect();
+    p.iter().all(sound) && sent == met
+}
+
+/// Every piece-unifier of the question with the rule.
+fn unifiers(question: &[Atom], rule: &Rule) -> Vec<Unifier> {
+    let mut found = Vec::new();
+    for bits in 1..1 << question.len() {
+        for head_bits in 1..1 << rule.head.len() {
+            let (part, head) = (picked(question, bits), picked(&rule.head, head_bits));
+            let rest = picked(question, !bits);
+            let mut terms: BTreeSet<Apart> = BTreeSet::new();
+            terms.extend(
+                part.iter()
+                    .flat_map(|a| a.terms.iter().map(|&t| of_question(t))),
+            );
+            terms.extend(
+                head.iter()
+                    .flat_map(|a| a.terms.iter().map(|&t| of_rule(t))),
+            );
+            let terms = Vec::from_iter(terms);
+            for partition in partitions(&terms) {
+                if is_unifier(rule, &part, &head, &rest, &partition) {
+                    let sent = (0..question.len()).map(|i| bits >> i & 1 == 1).collect();
+                    found.push(Unifier { sent, partition });
+                }
+            }
+        }
+    }
+    found
+}
+
+/// The rewriting of Definition 13: u(body) and u(what is left of the question).
+fn rewriting_of(question: &[Atom], rule: &Rule, unifier: &Unifier) -> Question {
+    let digits = unifier.sent.iter().map(|&sent| sent as usize).collect();
+    let choice = Choice {
+        question,
+        rule,
+        digits,
+    };
+    choice.rewriting(&unifier.partition)
+}
+
+/// The valid choices: which atoms are sent, the classes, and the rewriting.
+fn valid_choices(question: &[Atom], rule: &Rule) -> Vec<(Vec<bool>, Classes, Question)> {
+    let mut found = Vec::new();
+    for_each_choice(question, rule, &mut |_, choice| {
+        let classes = choice.classes();
+        if choice.faults(&classes).is_empty() {
+            let sent = choice.digits.iter().map(|&digit| digit > 0).collect();
+            let rewriting = choice.rewriting(&classes);
+            found.push((sent, classes, rewriting));
+        }
+        true
+    });
+    found
+}
+
+/// A partition as a set of sets.
+fn as_sets(classes: &Classes) -> BTreeSet<BTreeSet<Apart>> {
+    let sets = classes.iter().map(|class| class.iter().copied().collect());
+    sets.collect()
+}
+
+#[test]
+fn valid_choices_are_piece_unifiers_and_cover_all_the_others() {
+    let mut random = Random::new(16);
+    let (mut choices, mut published) = (0, 0);
+    for _ in 0..1500 {
+        let (n, h) = (random.between(1, 3), random.between(1, 2));
+        let question = form(&atoms(&mut random, n, 2));
+        let rule = rule(&mut random, h);
+        let (unifiers, valid) = (unifiers(&question, &rule), valid_choices(&question, &rule));
+        choices += valid.len();
+        published += unifiers.len();
+        for (sent, classes, _) in &valid {
+            let same = |u: &Unifier| u.sent == *sent && as_sets(&u.partition) == as_sets(classes);
+            assert!(unifiers.iter().any(same), "{question:?} {rule:?}");
+        }
+        for unifier in &unifiers {
+            let rewriting = rewriting_of(&question, &rule, unifier);
+            let covered = valid.iter().any(|(_, _, r)| covers(r, &rewriting));
+            assert!(covered, "{question:?} {rule:?}");
+        }
+    }
+    assert!(choices > 300 && published > choices);
+}
+
+/// Sound books with a complete run, and their members.
+fn complete_runs(seed: u64, many: usize) -> Vec<(Book, Vec<Question>, usize)> {
+    let mut random = Random::new(seed);
+    let mut runs = Vec::new();
+    while runs.len() < many {
+        let book = generate::sound(&mut random);
+        if let Outcome::Complete { members, explored } = explore(&book, &mut Seen::default()) {
+            runs.push((book, members, explored));
+        }
+    }
+    runs
+}
+
+#[test]
+fn a_complete_union_is_closed_and_no_member_covers_another() {
+    for (book, members, explored) in complete_runs(17, 1500) {
+        assert!(explored <= book.allowed && (1..=64).contains(&members.len()));
+        assert!(members.iter().any(|m| covers(m, &book.question)));
+        for (i, member) in members.iter().enumerate() {
+            assert!(member.len() <= 8 && *member == form(member));
+            let others = members.iter().enumerate().filter(|(j, _)| *j != i);
+            assert!(others.clone().all(|(_, other)| !covers(other, member)));
+            for rule in &book.rules {
+                for (_, _, rewriting) in valid_choices(member, rule) {
+                    assert!(members.iter().any(|m| covers(m, &rewriting)));
+                }
+            }
+        }
+    }
+}
+
+#[test]
+fn rule_order_changes_no_union_up_to_equivalence() {
+    for (book, members, _) in complete_runs(18, 1000) {
+        let mut turned = book.clone();
+        turned.rules.reverse();
+        turned.allowed = 1000;
+        let Outcome::Complete { members: other, .. } = explore(&turned, &mut Seen::default())
+        else {
+            continue;
+        };
+        assert_eq!(members.len(), other.len());
+        for member in &members {
+            let partners = other.iter().filter(|o| equivalent(member, o));
+            assert_eq!(partners.count(), 1);
+        }
+    }
+}
+
+#[test]
+fn the_table_of_choice_counts() {
+    assert_eq!(choice_count(4, 8), 390_625);
+    assert_eq!(choice_count(1, 0), 1);
+    assert_eq!(digits_of(5, 2, 3), [0, 1, 2]);
+}

@@ -1,0 +1,281 @@
+//! Each refusal at several places, and two that compete.
+
+mod common;
+
+use common::{kept, read};
+use second::book;
+use second::layout::ATOM;
+use second::run::{run, Answer};
+use second::union::OUTPUT_ROOM;
+use second::way::Way;
+
+/// A book with every kind of part: 2 relations (1 and 2 places), 2 constants, 2 rules.
+fn sample() -> Vec<u8> {
+    let text = "relation p 1\nrelation q 2\nconstant a b\n\
+        rule p(x) -> q(x,y)\nrule p(x) p(y) -> p(x) q(y,a)\n\
+        question p(x) q(x,b)\nallow 9\n";
+    book::write(&read(text).book)
+}
+
+/// Offsets in the sample.
+const RELATIONS: usize = 18;
+const RULE_1: usize = 20;
+const RULE_2: usize = 32;
+const QUESTION: usize = 54;
+const TOTAL: usize = 64;
+
+/// The answer for these bytes; at a refusal no output byte may change.
+fn answer(bytes: &[u8]) -> (usize, usize) {
+    let mut output = vec![99; OUTPUT_ROOM + 10];
+    let Answer { number, place } = run(bytes, &mut output);
+    let touched = if number == 0 { place } else { 0 };
+    assert!(output[touched..].iter().all(|&byte| byte == 99));
+    (number, place)
+}
+
+/// The answer for the sample with some bytes changed.
+fn changed(changes: &[(usize, u8)]) -> (usize, usize) {
+    let mut bytes = sample();
+    changes.iter().for_each(|&(at, value)| bytes[at] = value);
+    answer(&bytes)
+}
+
+/// The sample with a header word changed.
+fn word(word: usize, value: u16) -> (usize, usize) {
+    let [low, high] = value.to_le_bytes();
+    changed(&[(2 * word, low), (2 * word + 1, high)])
+}
+
+/// The sample with bytes put before the question and the offsets moved along.
+fn before_question(rules: u8, more: &[u8]) -> (usize, usize) {
+    let mut bytes = sample();
+    bytes[4] = rules;
+    bytes.splice(QUESTION..QUESTION, more.iter().copied());
+    bytes[14] += more.len() as u8;
+    bytes[16] += more.len() as u8;
+    answer(&bytes)
+}
+
+#[test]
+fn the_sample_is_sound() {
+    assert_eq!(sample().len(), TOTAL);
+    assert_eq!(answer(&sample()).0, 0);
+    assert_eq!(sample()[RULE_2..RULE_2 + 2], [2, 2]);
+}
+
+#[test]
+fn refusal_1_wins_over_everything() {
+    for bytes in [sample(), vec![], vec![0; 18], vec![255; 40]] {
+        for room in [0, 1, 8, OUTPUT_ROOM - 1] {
+            let mut output = vec![99; room];
+            let Answer { number, place } = run(&bytes, &mut output);
+            assert_eq!((number, place), (1, 0));
+            assert!(output.iter().all(|&byte| byte == 99));
+        }
+    }
+    let mut output = vec![99; OUTPUT_ROOM];
+    assert_eq!(run(&sample(), &mut output).number, 0);
+}
+
+#[test]
+fn refusal_2_under_18_bytes() {
+    for length in 0..18 {
+        assert_eq!(answer(&sample()[..length]), (2, 0));
+    }
+    assert_eq!(answer(&sample()[..18]), (4, 0));
+}
+
+#[test]
+fn refusal_3_outside_the_table() {
+    for (which, value) in [
+        (0, 0),
+        (0, 65),
+        (1, 128),
+        (2, 33),
+        (3, 0),
+        (3, 9),
+        (4, 0),
+        (4, 1001),
+        (0, 65_535),
+        (4, 65_535),
+    ] {
+        assert_eq!(word(which, value), (3, 0), "{which} {value}");
+    }
+    for (which, value) in [(1, 127), (4, 1), (4, 1000)] {
+        assert_ne!(word(which, value).0, 3, "{which} {value}");
+    }
+}
+
+#[test]
+fn refusal_4_offsets_and_total() {
+    for (which, value) in [
+        (5, 17),
+        (5, 19),
+        (6, 19),
+        (6, 21),
+        (7, 19),
+        (7, 53),
+        (7, 55),
+        (8, 63),
+        (8, 65),
+        (8, 0),
+    ] {
+        assert_eq!(word(which, value), (4, 0), "{which} {value}");
+    }
+    let mut bytes = sample();
+    bytes.push(255);
+    assert_eq!(answer(&bytes), (4, 0));
+    assert_eq!(answer(&sample()[..TOTAL - 1]), (4, 0));
+}
+
+#[test]
+fn refusal_4_sums_are_not_cut() {
+    // The question's offset 65,535 and two atoms: 65,545, which is 9 when cut.
+    assert_eq!(changed(&[(14, 255), (15, 255), (16, 9), (17, 0)]), (4, 0));
+}
+
+#[test]
+fn refusal_5_places() {
+    for places in [0, 5, 128, 255] {
+        assert_eq!(changed(&[(RELATIONS, places)]), (5, RELATIONS));
+        assert_eq!(changed(&[(RELATIONS + 1, places)]), (5, RELATIONS + 1));
+    }
+    let two = changed(&[(RELATIONS + 1, 0), (RELATIONS, 9)]);
+    assert_eq!(two, (5, RELATIONS));
+}
+
+#[test]
+fn refusal_6_counts() {
+    for count in [0, 5, 128, 255] {
+        for at in [RULE_1, RULE_1 + 1] {
+            assert_eq!(changed(&[(at, count)]), (6, RULE_1));
+        }
+        for at in [RULE_2, RULE_2 + 1] {
+            assert_eq!(changed(&[(at, count)]), (6, RULE_2));
+        }
+    }
+}
+
+#[test]
+fn refusal_6_a_rule_runs_past() {
+    assert_eq!(changed(&[(RULE_2, 3)]), (6, RULE_2));
+    assert_eq!(before_question(3, &[]), (6, QUESTION));
+    assert_eq!(before_question(3, &[1]), (6, QUESTION));
+    assert_eq!(before_question(3, &[1, 1]), (6, QUESTION));
+    assert_eq!(
+        before_question(3, &[1, 1, 0, 0, 255, 255, 255]),
+        (6, QUESTION)
+    );
+    let whole = [1, 1, 0, 0, 255, 255, 255, 0, 0, 255, 255, 255];
+    assert_eq!(before_question(3, &whole).0, 0);
+    assert_eq!(before_question(4, &whole), (6, QUESTION + 12));
+}
+
+#[test]
+fn refusal_6_the_rules_end_early() {
+    assert_eq!(word(2, 1), (6, RULE_2));
+    assert_eq!(word(2, 0), (6, RULE_1));
+    assert_eq!(before_question(2, &[1]), (6, QUESTION));
+    assert_eq!(before_question(2, &[1, 1, 0]), (6, QUESTION));
+}
+
+#[test]
+fn refusal_7_relation_numbers() {
+    let body = RULE_1 + 2;
+    for at in [body, body + ATOM, RULE_2 + 2, QUESTION, QUESTION + ATOM] {
+        for relation in [2, 64, 255] {
+            assert_eq!(changed(&[(at, relation)]), (7, at));
+        }
+    }
+    // Only the relation byte of such an atom is judged, and the next fault is later.
+    assert_eq!(changed(&[(body, 2), (body + 1, 77)]), (7, body));
+}
+
+#[test]
+fn refusal_7_places() {
+    let body = RULE_1 + 2;
+    for value in [32, 127, 130, 254, 255] {
+        assert_eq!(changed(&[(body + 1, value)]), (7, body + 1));
+        assert_eq!(changed(&[(QUESTION + 7, value)]), (7, QUESTION + 7));
+    }
+    for value in [0, 31, 128, 129] {
+        assert_ne!(changed(&[(body + 1, value)]).0, 7);
+        assert_eq!(changed(&[(body + 2, value)]), (7, body + 2));
+        assert_eq!(changed(&[(QUESTION + 9, value)]), (7, QUESTION + 9));
+    }
+    let last = changed(&[(QUESTION + 9, 0), (QUESTION + 2, 0), (body + 4, 0)]);
+    assert_eq!(last, (7, body + 4));
+}
+
+#[test]
+fn the_least_number_wins_and_then_the_earliest_place() {
+    let bad_place = (RULE_1 + 3, 200);
+    assert_eq!(changed(&[bad_place]), (7, RULE_1 + 3));
+    assert_eq!(changed(&[bad_place, (RULE_2, 0)]), (6, RULE_2));
+    assert_eq!(changed(&[bad_place, (RULE_2, 0), (19, 0)]), (5, 19));
+    assert_eq!(changed(&[bad_place, (RULE_2, 0), (19, 0), (10, 0)]), (4, 0));
+    assert_eq!(
+        changed(&[bad_place, (RULE_2, 0), (19, 0), (10, 0), (8, 0)]),
+        (3, 0)
+    );
+    assert_eq!(changed(&[(RULE_1, 0), (RULE_2, 0)]), (6, RULE_1));
+}
+
+#[test]
+fn refusal_7_in_a_rule_after_a_sound_one() {
+    // A fault in the second rule's head, and one in the question: the first counts.
+    let head = RULE_2 + 2 + 2 * ATOM;
+    assert_eq!(changed(&[(head, 9), (QUESTION, 9)]), (7, head));
+}
+
+#[test]
+fn refusals_8_to_10() {
+    assert_eq!(answer(&book::write(&kept("example-11").book)), (8, 8));
+    let nine = book::write(&kept("example-10-refused-9").book);
+    assert_eq!(answer(&nine), (9, 9));
+    let ten = book::write(&kept("example-10-refused-10").book);
+    assert_eq!(answer(&ten), (10, 63));
+}
+
+#[test]
+fn covering_is_tested_before_refusal_8() {
+    // Eleven atoms of p, which the question covers, and eleven that it does not.
+    let books = second::limits::books();
+    let bytes = |name: &str| &books.iter().find(|(n, _)| n == name).unwrap().1;
+    assert_eq!(answer(bytes("11 atoms, covered")).0, 0);
+    assert_eq!(answer(bytes("11 atoms, uncovered")), (8, 1));
+    assert_eq!(answer(bytes("44 variables, covered")).0, 0);
+    assert_eq!(answer(bytes("44 variables, uncovered")), (8, 1));
+    assert_eq!(answer(bytes("8 before 9")), (8, 14));
+}
+
+#[test]
+fn as_many_explored_as_can_be_allowed() {
+    let books = second::limits::books();
+    let bytes = |name: &str| &books.iter().find(|(n, _)| n == name).unwrap().1;
+    let mut output = vec![0; OUTPUT_ROOM];
+    assert_eq!(run(bytes("1,000 explored"), &mut output).number, 0);
+    assert_eq!(output[..4], [50, 0, 232, 3]);
+    assert_eq!(answer(bytes("1,000 wanted, L 999")), (10, 999));
+    assert_eq!(answer(bytes("the largest union")), (0, OUTPUT_ROOM));
+}
+
+#[test]
+fn transitive_rules_are_refused_and_never_looped_on() {
+    assert_eq!(common::refused(&kept("001-transitive")), (8, 8));
+    assert_eq!(common::refused(&kept("001-theorem-1")).0, 8);
+    let alone = common::told_by(&kept("001-transitive-boolean"), Way::Right);
+    assert_eq!(alone, ["p(v0,v1)"]);
+}
+
+#[test]
+fn a_complete_answer_writes_the_union_and_no_more() {
+    let mut output = vec![99; OUTPUT_ROOM + 3];
+    let Answer { number, place } = run(&book::write(&kept("printed").book), &mut output);
+    assert_eq!((number, place), (0, 8 + 11 + 6));
+    let expected = [
+        2, 0, 2, 0, 8, 0, 25, 0, 2, 1, 0, 255, 255, 255, 2, 1, 0, 255, 255, 1, 0, 0, 255, 255, 255,
+    ];
+    assert_eq!(output[..25], expected);
+    assert!(output[25..].iter().all(|&byte| byte == 99));
+}
