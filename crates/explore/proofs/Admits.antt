@@ -1,5 +1,5 @@
--- What becomes of one rewriting, exactly when: "If a member covers the new rewriting it is dropped ..  Otherwise apply
--- refusal 8, remove every member that it covers, apply 9, and append it." Assumes nothing.
+-- What becomes of one rewriting, exactly when: "If a member covers the new rewriting it is dropped ..  Otherwise
+-- apply refusal 8, remove every member that it covers, apply 9, and append it." Assumes nothing.
 use mathlib.Core.Path.{_≡_, sym, subst}
 use mathlib.Core.Bool.{cond, not}
 use mathlib.Core.Logic.{_⊎_, inl, inr}

@@ -61,9 +61,9 @@ pub record Demand2 (book out : List ℕ) (number place : ℕ) (after : List ℕ)
       → ((n, X) ∈ listed apart r M → Publishes apart r M n X) × (Publishes apart r M n X → (n, X) ∈ listed apart r M)
 
 -- DEMAND 3. "If the number is 0: for every finite ledger over the book's relations, of named things in the book or
--- not, some member of the written union holds in it exactly when some finite chain of rule applications, each bringing
--- fresh unknowns, reaches facts in which the book's question holds. No member covers another. Each is reached from
--- the question by rewriting steps. There are 1 to 64 members of 1 to 8 atoms, each a form."
+-- not, some member of the written union holds in it exactly when some finite chain of rule applications, each
+-- bringing fresh unknowns, reaches facts in which the book's question holds. No member covers another. Each is
+-- reached from the question by rewriting steps. There are 1 to 64 members of 1 to 8 atoms, each a form."
 pub record Demand3 (book after : List ℕ) : Type 0 where
   pub answers : (F : Question) → Ledger (bookOf book .places) F
       → SomeHolds (membersOf after) F ↔ Derives (bookOf book .rules) (bookOf book .question) F

@@ -1,6 +1,7 @@
--- The run ends exactly as 01 says. `Ends o` of `specs/Steps` says in single steps that it ends with o; `run-ends` that
--- the computed outcome is such an end, and `ends-only` that there is no other. So the run is refused with 8, 9 or 10
--- exactly when the steps come to a position at which 01 refuses it, with that position's place. Assumes nothing.
+-- The run ends exactly as 01 says. `Ends o` of `specs/Steps` says in single steps that it ends with o; `run-ends`
+-- that the computed outcome is such an end, and `ends-only` that there is no other. So the run is refused with 8, 9
+-- or 10 exactly when the steps come to a position at which 01 refuses it, with that position's place. Assumes
+-- nothing.
 use mathlib.Core.Path.{_≡_, refl, sym, _∙_, ap, subst}
 use mathlib.Core.Bool.{not}
 use mathlib.Core.Logic.{_⊎_, inl, inr}

@@ -1,7 +1,7 @@
 -- Laws of the search for a covering member (`specs/Held`): one member more, one candidate more. Assumes nothing.
 use mathlib.Core.Path.{_≡_, refl, sym, _∙_, ap, ap₂, subst}
 use mathlib.Core.Bool.{Bool, true, false, cond, _||_}
-use mathlib.Core.List.{List, [], _∷_, _++_}
+use mathlib.Core.List.{List, [], _∷_}
 use Prim.Native.Nat.{ℕ, zero, suc, _+_, _*_, _-_, _≤_, _<_}
 use native.Mathlib.Omega.{arith}
 use native.Mathlib.Nat.{sub-eq-zero-of-le}
@@ -12,7 +12,7 @@ use lib.Seq.{getD-drop, take-all}
 use Rattle.cover.specs.Lists.{any}
 use Rattle.cover.specs.Term.{Atom, Question}
 use Rattle.cover.specs.Search.{covers, coversOn}
-use Rattle.cover.specs.Record.{desk, size, argsAt, atomAt, atomsAt, questionOf, termOf, Sound}
+use Rattle.cover.specs.Record.{desk, argsAt, atomAt, atomsAt, questionOf, termOf, Sound}
 use Rattle.cover.proofs.Decides.{covers-any}
 use Rattle.book.specs.Word.{byte}
 use Rattle.explore.specs.Run.{Test, covered}

@@ -12,7 +12,8 @@ use Rattle.cover.specs.Term.{Question}
 use Rattle.book.specs.Verdict.{Sound}
 use Rattle.explore.specs.Run.{complete}
 use Rattle.explore.specs.Union.{outputSize, total, unionBytes, membersOf, exploredOf}
-use Rattle.explore.specs.Answer.{Result, union, refusal, outcomeOf, result, answer, written, answerOf, writtenOf}
+use Rattle.explore.specs.Answer.{Result, union, refusal, outcomeOf, result, answer, written, answerOf}
+use Rattle.explore.specs.Answer.{writtenOf}
 use Rattle.explore.specs.Answer.{Answers}
 use Rattle.explore.specs.Refusals.{Refuses, Completes}
 use Rattle.explore.proofs.OfBook.{Member, whole, members-most, desk-fits}

@@ -2,7 +2,7 @@
 -- put after the last one is one member more, and with its header filled it is the union. Assumes nothing.
 use mathlib.Core.Path.{_≡_, refl, sym, _∙_, ap, subst}
 use mathlib.Core.List.{List, [], _∷_, _++_, append-assoc}
-use Prim.Native.Nat.{ℕ, _+_, _-_, _≤_}
+use Prim.Native.Nat.{ℕ, _+_, _≤_}
 use native.Mathlib.Omega.{arith}
 use lib.ListN.{length, take, drop, length-append, length-drop, take-append-drop}
 use lib.Seq.{drop-drop, take-at, drop-at, drop-append-le, length-take-le}
@@ -65,8 +65,8 @@ module _ {W : List ℕ} {len count front : ℕ} {s : State} (h : Held W len coun
     member-question f =
         ap (questionOf desk) member-stands ∙ begun-question desk apart M (membersBytes R ++ drop len W) f
 
-    -- Removing it: the members after it are moved down over it, so that they end before where they ended. What is left
-    -- behind them does not count. How many of those that stay are explored is the caller's to say.
+    -- Removing it: the members after it are moved down over it, so that they end before where they ended. What is
+    -- left behind them does not count. How many of those that stay are explored is the caller's to say.
     pub held-removed : (X : List ℕ) (left k : ℕ) → length X ≡ outputSize
         → take (firstAt + length (membersBytes A)) X ≡ take (firstAt + length (membersBytes A)) W
         → take (length (membersBytes R)) (drop (firstAt + length (membersBytes A)) X) ≡ membersBytes R

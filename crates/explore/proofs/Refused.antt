@@ -1,6 +1,6 @@
--- Refuses exactly: for every book and every output the computed result is a refusal exactly when 01's table says, with
--- that number and place (`refuses-exactly`), and a union exactly when nothing applies and the run completes with it
--- (`completes-exactly`). Assumes nothing.
+-- Refuses exactly: for every book and every output the computed result is a refusal exactly when 01's table says,
+-- with that number and place (`refuses-exactly`), and a union exactly when nothing applies and the run completes with
+-- it (`completes-exactly`). Assumes nothing.
 use mathlib.Core.Path.{_≡_, refl, sym, _∙_, ap, ap₂, subst}
 use mathlib.Core.Bool.{cond, not}
 use mathlib.Core.Logic.{_⊎_, inl, inr, _↔_}

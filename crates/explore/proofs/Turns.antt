@@ -1,5 +1,5 @@
--- One turn of each loop: what the rest of an exploration and of the run is, by what the turn finds. These are the laws
--- for code that holds a state and goes on. Assumes nothing.
+-- One turn of each loop: what the rest of an exploration and of the run is, by what the turn finds. These are the
+-- laws for code that holds a state and goes on. Assumes nothing.
 use mathlib.Core.Path.{_≡_, refl, _∙_, ap}
 use mathlib.Core.Bool.{cond, not}
 use mathlib.Core.List.{List, _∷_}

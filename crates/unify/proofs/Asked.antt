@@ -1,39 +1,40 @@
 -- What the builder's functions ask of each other, and what they answer: one law for each way through the code.
 -- Assumes nothing.
 use mathlib.Core.Path.{_≡_, refl, sym, _∙_, ap, subst}
-use mathlib.Core.Bool.{Bool, true, false, cond}
+use mathlib.Core.Bool.{Bool, true, false}
 use mathlib.Core.Logic.{_⊎_, inl, inr}
-use mathlib.Core.List.{List, [], _∷_, _++_, List·Memᴰ·not-nil, List·Memᴰ·append-cases, List·Memᴰ·eq-of-singleton, Memᴰ·of-map}
+use mathlib.Core.List.{List, [], _∷_, _++_, List·Memᴰ·not-nil, List·Memᴰ·append-cases, List·Memᴰ·eq-of-singleton}
+use mathlib.Core.List.{Memᴰ·of-map}
 use mathlib.Core.List.{List·Memᴰ·cases-cons}
 use mathlib.Core.Option.{Option, none, some}
 use Prim.Native.Nat.{ℕ, zero, suc, _+_, _*_, _-_, _≤_, _<_}
 use native.Mathlib.Nat.{mul-le-mul-left, mul-le-mul-right, le-of-eq, pow-zero}
 use native.Mathlib.Omega.{arith}
 use lib.Dec.{T, leb, leb→le}
-use lib.ListN.{length, getD, length-append, length-map}
-use Rattle.cover.specs.Lists.{_∈_, bind, firstOf, numbers}
-use Rattle.cover.specs.Term.{Term, Atom, Question, on-term, on-atom, on-question}
-use Rattle.cover.specs.Record.{desk, atomAt, atomsAt, questionOf, isAtom, areAtoms, recordBytes, atomBytes, heldIn, AtomFits, TermFits, Room}
-use Rattle.cover.specs.Held.{AtomsIn}
+use lib.ListN.{length, getD, length-append}
+use Rattle.cover.specs.Lists.{_∈_, firstOf, numbers}
+use Rattle.cover.specs.Term.{Term, Atom, Question, on-term, on-atom}
+use Rattle.cover.specs.Record.{desk, atomAt, atomsAt, questionOf, isAtom, areAtoms, recordBytes, atomBytes, heldIn}
+use Rattle.cover.specs.Record.{AtomFits, TermFits, Room}
 use Rattle.cover.proofs.Padded.{desk-apart, held-count, held-length, held-question, held-atoms}
 use Rattle.cover.proofs.Fitting.{count-atoms, atom-fits}
 use Rattle.cover.proofs.Terms.{terms-out}
 use Rattle.cover.proofs.Wider.{atom-means}
 use Rattle.cover.proofs.Steps.{sound-more}
-use Rattle.book.specs.Rule.{Rule}
 use Rattle.book.specs.declared.Parts.{Parts}
 use Rattle.unify.specs.declared.Found.{Found}
 use Rattle.unify.specs.Choice.{count, atomPairs, toHead}
 use Rattle.unify.specs.Step.{up, move, Below, next}
 use Rattle.unify.specs.Build.{first, firstAt}
 use Rattle.unify.specs.Table.{Table, own, unifyTable, tableBuilder}
-use Rattle.unify.specs.Held.{inBook, ruleIn, ruleOf, classesOf, answered, LeftIn, RuleIn, QuestionIn, ClassesFit, Asks}
+use Rattle.unify.specs.Held.{inBook, ruleIn, ruleOf, classesOf, answered, LeftIn, RuleIn, QuestionIn}
+use Rattle.unify.specs.Held.{ClassesFit, Asks}
 use Rattle.unify.proofs.Each.{below, at}
 use Rattle.unify.proofs.Table.{next-table}
 use Rattle.unify.proofs.Entries.{Ends, unify-good, atom-ends}
 use Rattle.unify.proofs.Numbers.{count-suc}
-use Rattle.unify.proofs.Prefixes.{digits-hit, digits-miss, prefix-within, head-pairs, digit-skips}
-use Rattle.unify.proofs.Written.{book-desk, book-apart, all-fit, first-fits, rest-in}
+use Rattle.unify.proofs.Prefixes.{digits-hit, prefix-within, head-pairs, digit-skips}
+use Rattle.unify.proofs.Written.{book-desk, book-apart, all-fit, rest-in}
 
 -- answers
 pub found-first : (f : ℕ → Option (ℕ × Question)) (d n : ℕ) (r : Found) → 0 < n → r ≡ answered (f d) → r .found ≡ true

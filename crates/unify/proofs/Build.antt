@@ -19,7 +19,9 @@ use Rattle.unify.specs.Classes.{Pair, merge, unify}
 use Rattle.unify.specs.Choice.{Choice, count, number, choices, someSent, left, toHead, pairing}
 use Rattle.unify.specs.Step.{move, judge, stepApart, step, label, listed, from, next}
 use Rattle.unify.specs.Build.{Builder, byDigit, listOf, more, build, first, firstAt, since, builder}
-use Rattle.unify.proofs.Collected.{gather-same, passing, collect-same, collect-none, collect-keep, keep-collect, collect-gather, collect-map, head-gather, firstOf-same, firstOf-none}
+use Rattle.unify.proofs.Collected.{gather-same, passing, collect-same, collect-none, collect-keep}
+use Rattle.unify.proofs.Collected.{keep-collect, collect-gather, collect-map, head-gather, firstOf-same}
+use Rattle.unify.proofs.Collected.{firstOf-none}
 use Rattle.unify.proofs.Numbers.{count-suc, numbers-below}
 
 -- the number of a choice, w being that of the digits before it

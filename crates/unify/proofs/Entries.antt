@@ -1,17 +1,16 @@
 -- What stands for a class is a term that was there already, so a table of terms that fit a record stays one.
 -- Assumes nothing.
-use mathlib.Core.Path.{_≡_, refl, sym, _∙_, ap, subst}
+use mathlib.Core.Path.{_≡_, refl, sym, subst}
 use mathlib.Core.Bool.{Bool, true, false, cond}
-use mathlib.Core.Logic.{_⊎_, inl, inr}
-use mathlib.Core.List.{List, [], _∷_, _++_, map, List·Memᴰ·head, List·Memᴰ·tail, List·Memᴰ·append-cases}
-use mathlib.Core.List.{List·Memᴰ·cases-cons, List·Memᴰ·not-nil, Memᴰ·of-map}
+use mathlib.Core.List.{List, [], _∷_, map, List·Memᴰ·head, List·Memᴰ·tail}
+use mathlib.Core.List.{List·Memᴰ·not-nil, Memᴰ·of-map}
 use mathlib.Core.Option.{Option, none, some, Option·some-injective}
 use Prim.Native.Nat.{ℕ, zero, suc}
 use lib.Dec.{eqb}
 use lib.ListN.{getD}
 use Rattle.cover.specs.Lists.{_∈_, bind}
-use Rattle.cover.specs.Term.{Term, var, con, Atom, Question}
-use Rattle.cover.proofs.Lists.{either, none≢some}
+use Rattle.cover.specs.Term.{Term, var, con, Atom}
+use Rattle.cover.proofs.Lists.{none≢some}
 use Rattle.unify.specs.Classes.{Pair, point}
 use Rattle.unify.specs.Choice.{never, placePairs, atomPairs}
 use Rattle.unify.specs.Table.{Table, look, joinTable, unifyTable}

@@ -1,14 +1,14 @@
 -- Laws of putting an atom on an atom, one place at a time: one for each way through the code. Assumes nothing.
-use mathlib.Core.Path.{_≡_, refl, sym, _∙_, ap}
+use mathlib.Core.Path.{_≡_}
 use mathlib.Core.Bool.{true, false, cond}
 use mathlib.Core.Logic.{_⊎_, inl, inr}
-use mathlib.Core.List.{List, [], _∷_, map}
+use mathlib.Core.List.{List, map}
 use mathlib.Core.Option.{Option, none, some}
 use Prim.Native.Nat.{ℕ, _+_, _-_, _<_}
 use borrow.Author.Tests.{eqb-true, eqb-false, eq-eqb, ne-eqb}
 use lib.Dec.{eqb}
 use lib.ListN.{getD}
-use Rattle.cover.specs.Term.{Term, con, Atom, on-term, on-atom}
+use Rattle.cover.specs.Term.{on-term, on-atom}
 use Rattle.cover.specs.Record.{Layout, termOf, argsAt, atomAt}
 use Rattle.cover.proofs.Lists.{either}
 use Rattle.cover.proofs.Bytes.{args-more, args-end}

@@ -1,8 +1,8 @@
 -- Laws of the builder over atoms that stand one after the other in bytes: one for each way through the code.
 -- Assumes nothing.
-use mathlib.Core.Path.{_≡_, refl, sym, _∙_, ap, subst}
+use mathlib.Core.Path.{_≡_, refl, _∙_, ap}
 use mathlib.Core.Bool.{Bool, true, false, cond}
-use mathlib.Core.List.{List, [], _∷_, _++_, map}
+use mathlib.Core.List.{List, [], _∷_, _++_}
 use mathlib.Core.Option.{Option, none, some}
 use Prim.Native.Nat.{ℕ, zero, suc, _+_, _*_, _-_, _≤_, _<_}
 use native.Mathlib.Nat.{suc-mul, mul-le-mul-right, mul-assoc}
@@ -10,7 +10,7 @@ use native.Mathlib.Omega.{arith}
 use borrow.Author.Tests.{le-leb}
 use lib.Dec.{leb}
 use lib.ListN.{length}
-use Rattle.cover.specs.Lists.{bind, orElse, firstOf, numbers}
+use Rattle.cover.specs.Lists.{bind, firstOf, numbers}
 use Rattle.cover.specs.Form.{form}
 use Rattle.cover.specs.Term.{Atom, Question, Sub, on-atom, on-question}
 use Rattle.cover.specs.Record.{Layout, size, atomAt, atomsAt}
@@ -18,7 +18,7 @@ use Rattle.cover.proofs.Steps.{atoms-none, atoms-more}
 use Rattle.book.specs.Rule.{Rule}
 use Rattle.unify.specs.Choice.{count, atomPairs, toHead}
 use Rattle.unify.specs.Step.{up, move, valid, rewriting, judge}
-use Rattle.unify.specs.Build.{Builder, first, firstAt, more, since}
+use Rattle.unify.specs.Build.{first, firstAt, more, since}
 use Rattle.unify.specs.Table.{Table, unifyTable, tabled, tableBuilder}
 use Rattle.unify.proofs.Build.{first-whole, first-digits}
 use Rattle.unify.proofs.Numbers.{count-suc}

@@ -75,7 +75,8 @@ alike-absorbed s t f g ts =
       const′ = λ x c m e. sym (g x) ∙ ap (on-term s) e;
     }
 
--- whatever classes hold the pairs and merge no more than the ones found: they are alike, so they give the same verdict
+-- whatever classes hold the pairs and merge no more than the ones found: they are alike, so they give the same
+-- verdict
 pub least-alike : (ps : List Pair) (σ τ : Sub) → unify ps var ≡ some σ → Holds (Kernel τ) ps
     → ((n : ℕ) → Kernel σ (τ n) (var n)) → (ts : List Term) → Alike σ τ ts
 least-alike ps σ τ found holds near = alike-absorbed σ τ (near-on τ σ forth) (near-on σ τ near)

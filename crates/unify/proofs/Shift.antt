@@ -3,7 +3,8 @@
 use mathlib.Core.Path.{_≡_, refl, sym, _∙_, ap, ap₂, subst}
 use mathlib.Core.Bool.{Bool, true, false, cond, not, _&&_, _||_}
 use mathlib.Core.Logic.{_⊎_, inl, inr}
-use mathlib.Core.List.{List, [], _∷_, _++_, map, map-map, List·Memᴰ·head, List·Memᴰ·tail, List·Memᴰ·append-cases, List·Memᴰ·not-nil, Memᴰ·append-left, Memᴰ·append-right, Memᴰ·map, Memᴰ·of-map, Memᴰ·cast}
+use mathlib.Core.List.{List, [], _∷_, _++_, map, map-map, List·Memᴰ·head, List·Memᴰ·tail, List·Memᴰ·append-cases}
+use mathlib.Core.List.{List·Memᴰ·not-nil, Memᴰ·append-left, Memᴰ·append-right, Memᴰ·map, Memᴰ·of-map, Memᴰ·cast}
 use mathlib.Core.Option.{Option, some, Option·some-injective, none}
 use Prim.Native.Nat.{ℕ, zero, suc, _-_}
 use lib.Dec.{ltb}
@@ -12,11 +13,13 @@ use Rattle.cover.specs.Form.{form, Alike}
 use Rattle.cover.specs.Lists.{_∈_, all, keep, bind}
 use Rattle.cover.specs.Term.{Term, Atom, Question, terms, Sub, on-term, on-atom, on-question, comp, eqTerm, var, con}
 use Rattle.cover.proofs.Lists.{same-bool, none≢some, all-same, map-same, map-append, map-none}
-use Rattle.cover.proofs.Terms.{eqTerm→eq, eq→eqTerm, on-term-var, on-term-comp, on-atom-fixed, on-atom-comp, terms-in, terms-out, terms-on}
+use Rattle.cover.proofs.Terms.{eqTerm→eq, eq→eqTerm, on-term-var, on-term-comp, on-atom-fixed, on-atom-comp, terms-in}
+use Rattle.cover.proofs.Terms.{terms-out, terms-on}
 use Rattle.book.specs.Rule.{Rule}
 use Rattle.unify.specs.Classes.{Pair, unify, Kernel, Holds}
 use Rattle.unify.specs.Choice.{Choice, number, choices, someSent, left, never, placePairs, toHead, pairing}
-use Rattle.unify.specs.Step.{up, move, Below, isVar, memTerm, isUnknown, guarded, safe, valid, rewriting, judge, step, label, listed, rewritings}
+use Rattle.unify.specs.Step.{up, move, Below, isVar, memTerm, isUnknown, guarded, safe, valid, rewriting, judge}
+use Rattle.unify.specs.Step.{step, label, listed, rewritings}
 use Rattle.unify.proofs.Classes.{Least, unify-least, unify-sound, kernel-admissible}
 use Rattle.unify.proofs.Choices.{left-in}
 use Rattle.unify.proofs.Collected.{collect-same}

@@ -3,7 +3,8 @@
 use mathlib.Core.Path.{_≡_, refl, sym, _∙_, ap, subst}
 use mathlib.Core.Bool.{Bool, cond, not, _&&_}
 use mathlib.Core.Logic.{_⊎_, inl, inr}
-use mathlib.Core.List.{List, [], _∷_, _++_, List·Memᴰ·head, List·Memᴰ·tail, List·Memᴰ·cases-cons, List·Memᴰ·not-nil, Memᴰ·append-left, Memᴰ·append-right, Memᴰ·map, Memᴰ·cast}
+use mathlib.Core.List.{List, [], _∷_, _++_, List·Memᴰ·head, List·Memᴰ·tail, List·Memᴰ·cases-cons, List·Memᴰ·not-nil}
+use mathlib.Core.List.{Memᴰ·append-left, Memᴰ·append-right, Memᴰ·map, Memᴰ·cast}
 use Prim.Native.Nat.{ℕ, suc, _+_, _<_}
 use native.Mathlib.Omega.{arith}
 use lib.Dec.{T}
@@ -13,7 +14,8 @@ use Rattle.cover.specs.Term.{Term, Atom, Question, terms, Sub, on-term, on-atom
 use Rattle.cover.proofs.Preorder.{covers-trans}
 use Rattle.cover.proofs.Form.{form-equivalent}
 use Rattle.cover.proofs.Lists.{decide, clash, both, fst-of, snd-of, not-of, cond-yes, cond-no}
-use Rattle.cover.proofs.Terms.{var-inj, var≢con, eqTerm→eq, eq→eqTerm, on-term-comp, on-atom-same, on-atom-comp, terms-in}
+use Rattle.cover.proofs.Terms.{var-inj, var≢con, eqTerm→eq, eq→eqTerm, on-term-comp, on-atom-same, on-atom-comp}
+use Rattle.cover.proofs.Terms.{terms-in}
 use Rattle.book.specs.Rule.{Rule}
 use Rattle.unify.specs.Classes.{Kernel, Holds}
 use Rattle.unify.specs.Choice.{Choice, left, toHead, pairing}

@@ -2,7 +2,8 @@
 -- (`choice-no-more`), and its rewriting is the choice's (`choice-beta`). Assumes nothing.
 use mathlib.Core.Path.{_≡_, refl, sym, _∙_, ap, ap₂, subst}
 use mathlib.Core.Logic.{_⊎_, inl, inr}
-use mathlib.Core.List.{List, [], _∷_, _++_, map, List·Memᴰ·append-cases, Memᴰ·append-left, Memᴰ·append-right, Memᴰ·map, Memᴰ·cast}
+use mathlib.Core.List.{List, [], _∷_, _++_, map, List·Memᴰ·append-cases, Memᴰ·append-left, Memᴰ·append-right}
+use mathlib.Core.List.{Memᴰ·map, Memᴰ·cast}
 use mathlib.Core.Option.{some, Option·some-injective}
 use Prim.Native.Nat.{ℕ}
 use lib.Dec.{T}
@@ -14,7 +15,8 @@ use Rattle.book.specs.Rule.{Rule, Unknown}
 use Rattle.unify.specs.Classes.{unify, Kernel, Holds, Equivalence}
 use Rattle.unify.specs.Choice.{Choice, left, sent, pairing}
 use Rattle.unify.specs.Step.{move, Below, guarded, valid, rewriting}
-use Rattle.unify.specs.Published.{scope, Partition, Selects, NonSeparating, PieceUnifier, beta, Together, Puts, MergesNoMore}
+use Rattle.unify.specs.Published.{scope, Partition, Selects, NonSeparating, PieceUnifier, beta, Together, Puts}
+use Rattle.unify.specs.Published.{MergesNoMore}
 use Rattle.unify.proofs.Classes.{unify-sound, least-equivalence, idempotent}
 use Rattle.unify.proofs.Choices.{sent-in, terms-sent}
 use Rattle.unify.proofs.Hits.{hits, placeOf, left-without, Hit, hit-there, HitBy, hit-by, puts-pairing}

@@ -8,7 +8,8 @@ use lib.Dec.{T}
 use Rattle.cover.specs.Covers.{Sends}
 use Rattle.cover.specs.Lists.{_∈_}
 use Rattle.cover.specs.Term.{Term, Atom, Question, terms, Sub, on-term, on-atom, comp, eqTerm, var, con}
-use Rattle.cover.proofs.Lists.{decide, clash, both, fst-of, snd-of, or-left, or-right, or-cases, not-of, all-out, all-in}
+use Rattle.cover.proofs.Lists.{decide, clash, both, fst-of, snd-of, or-left, or-right, or-cases, not-of, all-out}
+use Rattle.cover.proofs.Lists.{all-in}
 use Rattle.cover.proofs.Terms.{var≢con, eqTerm→eq, eq→eqTerm, on-term-comp, on-atom-same, on-atom-comp}
 use Rattle.book.specs.Rule.{Rule, Unknown}
 use Rattle.unify.specs.Classes.{Kernel}

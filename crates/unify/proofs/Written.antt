@@ -5,7 +5,7 @@ use mathlib.Core.List.{List, [], _∷_, _++_, map, append-assoc, append-nil, map
 use mathlib.Core.List.{List·Memᴰ·append-cases, List·Memᴰ·cases-cons, List·Memᴰ·not-nil, Memᴰ·of-map}
 use mathlib.Core.Bool.{true, false}
 use mathlib.Core.Logic.{_⊎_, inl, inr}
-use Prim.Native.Nat.{ℕ, zero, suc, _+_, _*_, _-_, _≤_, _<_}
+use Prim.Native.Nat.{ℕ, zero, suc, _+_, _-_, _≤_, _<_}
 use native.Mathlib.Omega.{arith}
 use borrow.Author.Tests.{eqb-true, eqb-false, ltb-true, ltb-false}
 use lib.Dec.{T, eqb, ltb}
@@ -13,18 +13,18 @@ use lib.ListN.{length, getD, set, length-map, length-append, length-set}
 use lib.Seq.{getD-set-same, getD-set-other}
 use Rattle.cover.specs.Lists.{_∈_}
 use Rattle.cover.specs.Term.{Term, var, con, Atom, Question, Sub, on-term, on-atom, on-question, comp}
-use Rattle.cover.specs.Record.{Layout, desk, size, termOf, atomAt, atomsAt, questionOf, isAtom, areAtoms, heldIn}
-use Rattle.cover.specs.Record.{TermFits, AtomFits, Fits, AtomIn, Room, Sound}
+use Rattle.cover.specs.Record.{desk, size, termOf, atomAt, atomsAt, questionOf, areAtoms, heldIn}
+use Rattle.cover.specs.Record.{TermFits, AtomFits, AtomIn, Room, Sound}
 use Rattle.cover.specs.Held.{AtomsIn}
 use Rattle.cover.specs.Building.{subOf}
 use Rattle.cover.proofs.Lists.{either, map-same, map-append}
-use Rattle.cover.proofs.Terms.{on-atom-comp, on-atom-same, atom-path}
+use Rattle.cover.proofs.Terms.{on-atom-comp, on-atom-same}
 use Rattle.cover.proofs.Steps.{atoms-none, atoms-more, sound-more}
 use Rattle.cover.proofs.RoundTrip.{Apart}
 use Rattle.cover.proofs.Padded.{desk-apart, held-count, held-question, held-atoms, held-sound}
 use Rattle.cover.proofs.Fitting.{count-atoms, atom-fits, atoms-fit}
 use Rattle.cover.proofs.Growing.{Grows, grows-question, grows-room, grows-put}
-use Rattle.cover.proofs.Wider.{Wider, atom-means, atoms-mean, atom-wider, in-wider}
+use Rattle.cover.proofs.Wider.{Wider, atom-means, atoms-mean, in-wider}
 use Rattle.book.specs.declared.Parts.{Parts}
 use Rattle.unify.specs.Step.{up, move, rewriting}
 use Rattle.unify.specs.Table.{tabled}

@@ -1,7 +1,7 @@
 -- One-step rewritings (01, "One-step rewritings"): which choices are valid, what each gives, and the list of a
 -- question's rewritings by a rule with the numbers of their choices.
 use mathlib.Core.Bool.{Bool, true, false, cond, not, _&&_, _||_}
-use mathlib.Core.List.{List, [], _∷_, _++_, map}
+use mathlib.Core.List.{List, _++_, map}
 use mathlib.Core.Option.{Option, none, some}
 use Prim.Native.Nat.{ℕ, _+_, _<_}
 use lib.Dec.{leb}

@@ -1,5 +1,5 @@
--- The builder's two functions meet their contracts. `build` goes through the digits of the next atom, `try_digit` goes on with
--- the rest under one digit. The measure is two for each atom left, and one less while a digit is tried.
+-- The builder's two functions meet their contracts. `build` goes through the digits of the next atom, `try_digit`
+-- goes on with the rest under one digit. The measure is two for each atom left, and one less while a digit is tried.
 use borrow.Author.Needs.{needs}
 use native.Mathlib.Omega.{arith}
 use mathlib.Core.Path.{_≡_, refl, sym, ap, _∙_}
@@ -29,7 +29,9 @@ use Rattle.unify.specs.Held.{ruleOf, classesOf, answered}
 use Rattle.unify.proofs.Bytes.{said-yes, said-no}
 use Rattle.unify.proofs.Prefixes.{digits-none, digits-miss, prefix-digits, whole-sent, whole-unsent}
 use Rattle.unify.proofs.Written.{first-in, first-fits}
-use Rattle.unify.proofs.Asked.{found-first, missed-none, left-room, left-put, nth-sound, joined-fit, child-number, child-left, child-sent, heads-are, skipped, left-at, clash-at, sent-at, nth-fits, child-small}
+use Rattle.unify.proofs.Asked.{found-first, missed-none, left-room, left-put, nth-sound, joined-fit}
+use Rattle.unify.proofs.Asked.{child-number, child-left, child-sent, heads-are, skipped, left-at, clash-at}
+use Rattle.unify.proofs.Asked.{sent-at, nth-fits, child-small}
 use Rattle.cover.proofs.put_atom.Reads as put-atom-reads
 use Rattle.unify.proofs.builder.judged.Reads as judged-reads
 use Rattle.unify.proofs.builder.nothing.Reads as nothing-reads
@@ -73,13 +75,32 @@ build-μ-loop question book rule from i more number sent left table heads d₀ d
 
 -- what is asked of and learnt from what `build` calls
 abbrev build-calls : ℕ → build-lts.Claims
-build-calls t = (judged-reads.Asked, judged-reads.Learnt, nothing-reads.Asked, nothing-reads.Learnt, try-digit-below t, try-digit.Post)
+build-calls t = (
+  judged-reads.Asked,
+  judged-reads.Learnt,
+  nothing-reads.Asked,
+  nothing-reads.Learnt,
+  try-digit-below t,
+  try-digit.Post,
+)
 
 -- what is asked of and learnt from what `try-digit` calls
 abbrev try-digit-calls : ℕ → try-digit-lts.Claims
-try-digit-calls t = (choice-count-reads.Asked, choice-count-reads.Learnt, nothing-reads.Asked, nothing-reads.Learnt, put-atom-reads.Asked, put-atom-reads.Learnt, build-below t, build.Post, join-atoms-reads.Asked, join-atoms-reads.Learnt)
+try-digit-calls t = (
+  choice-count-reads.Asked,
+  choice-count-reads.Learnt,
+  nothing-reads.Asked,
+  nothing-reads.Learnt,
+  put-atom-reads.Asked,
+  put-atom-reads.Learnt,
+  build-below t,
+  build.Post,
+  join-atoms-reads.Asked,
+  join-atoms-reads.Learnt,
+)
 
-build-judged-requires : (t : ℕ) → build-lts.Need-judged-requires (build-calls t) (build-at t) build.Post build-Inv-loop build-μ-loop
+build-judged-requires : (t : ℕ)
+    → build-lts.Need-judged-requires (build-calls t) (build-at t) build.Post build-Inv-loop build-μ-loop
 build-judged-requires t c κs =
     let k = c .before .before .before .before .pre .1 in
     (k .rule, k .left, omega (arith, k .fewer (c .if2 .taken)), k .classes)
@@ -93,10 +114,12 @@ build-returns t c =
     (whole-sent 32 (ruleOf (a .book .now) (a .rule)) (a .from) (a .number) (questionOf desk (a .left)) (a .sent)
     (classesOf (a .table)) desk (a .question .now) (a .i) (a .more) (c .before .before .if1 .taken) (c .before .if2 .taken)))
 
-build-nothing-requires : (t : ℕ) → build-lts.Need-nothing-requires (build-calls t) (build-at t) build.Post build-Inv-loop build-μ-loop
+build-nothing-requires : (t : ℕ)
+    → build-lts.Need-nothing-requires (build-calls t) (build-at t) build.Post build-Inv-loop build-μ-loop
 build-nothing-requires t c κs = search needs
 
-build-returns-2 : (t : ℕ) → build-lts.Need-returns-2 (build-calls t) (build-at t) build.Post build-Inv-loop build-μ-loop
+build-returns-2 : (t : ℕ)
+    → build-lts.Need-returns-2 (build-calls t) (build-at t) build.Post build-Inv-loop build-μ-loop
 build-returns-2 t c =
     let a = c .before .before .before .before .before .args in
     c .nothing .ensures
@@ -105,7 +128,8 @@ build-returns-2 t c =
     (whole-unsent 32 (ruleOf (a .book .now) (a .rule)) (a .from) (a .number) (questionOf desk (a .left)) (a .sent)
     (classesOf (a .table)) desk (a .question .now) (a .i) (a .more) (c .before .before .if1 .taken) (c .before .if2 .left)))
 
-build-loop-holds : (t : ℕ) → build-lts.Need-loop-holds (build-calls t) (build-at t) build.Post build-Inv-loop build-μ-loop
+build-loop-holds : (t : ℕ)
+    → build-lts.Need-loop-holds (build-calls t) (build-at t) build.Post build-Inv-loop build-μ-loop
 build-loop-holds t c =
     let a = c .before .before .before .args in
     let f = given (a .question .now) (a .book .now) (a .rule) (a .from) (a .i) (a .more) (a .number) (a .sent) (a .left) (a .table) in
@@ -114,10 +138,12 @@ build-loop-holds t c =
     let all : suc (length (ruleOf (a .book .now) (a .rule) .head)) ≡ suc (a .rule .heads) - 0 = omega (arith, h) in
     (refl, omega arith, ap (λ n. firstOf f (numbers 0 n)) all)
 
-build-try-digit-requires : (t : ℕ) → build-lts.Need-try-digit-requires (build-calls t) (build-at t) build.Post build-Inv-loop build-μ-loop
+build-try-digit-requires : (t : ℕ)
+    → build-lts.Need-try-digit-requires (build-calls t) (build-at t) build.Post build-Inv-loop build-μ-loop
 build-try-digit-requires t c κs = (omega arith, (c .before .before .before .before .before .pre .1, omega arith, omega arith))
 
-build-returns-3 : (t : ℕ) → build-lts.Need-returns-3 (build-calls t) (build-at t) build.Post build-Inv-loop build-μ-loop
+build-returns-3 : (t : ℕ)
+    → build-lts.Need-returns-3 (build-calls t) (build-at t) build.Post build-Inv-loop build-μ-loop
 build-returns-3 t c =
     let l = c .before .before .before .loop in
     let a = c .before .before .before .before .before .before .before .args in
@@ -132,10 +158,12 @@ build-returns-3 t c =
 build-add-d : (t : ℕ) → build-lts.Need-add-d (build-calls t) (build-at t) build.Post build-Inv-loop build-μ-loop
 build-add-d t c = omega arith
 
-build-loop-less : (t : ℕ) → build-lts.Need-loop-less (build-calls t) (build-at t) build.Post build-Inv-loop build-μ-loop
+build-loop-less : (t : ℕ)
+    → build-lts.Need-loop-less (build-calls t) (build-at t) build.Post build-Inv-loop build-μ-loop
 build-loop-less t c = omega arith
 
-build-loop-again : (t : ℕ) → build-lts.Need-loop-again (build-calls t) (build-at t) build.Post build-Inv-loop build-μ-loop
+build-loop-again : (t : ℕ)
+    → build-lts.Need-loop-again (build-calls t) (build-at t) build.Post build-Inv-loop build-μ-loop
 build-loop-again t c =
     let l = c .before .before .before .loop in
     let a = c .before .before .before .before .before .before .before .args in
@@ -147,10 +175,12 @@ build-loop-again t c =
           (missed-none (f (l .d)) (c .before .try-digit .result) (c .before .try-digit .ensures) (c .if3 .left)),
     )
 
-build-nothing-requires-2 : (t : ℕ) → build-lts.Need-nothing-requires-2 (build-calls t) (build-at t) build.Post build-Inv-loop build-μ-loop
+build-nothing-requires-2 : (t : ℕ)
+    → build-lts.Need-nothing-requires-2 (build-calls t) (build-at t) build.Post build-Inv-loop build-μ-loop
 build-nothing-requires-2 t c κs = search needs
 
-build-returns-4 : (t : ℕ) → build-lts.Need-returns-4 (build-calls t) (build-at t) build.Post build-Inv-loop build-μ-loop
+build-returns-4 : (t : ℕ)
+    → build-lts.Need-returns-4 (build-calls t) (build-at t) build.Post build-Inv-loop build-μ-loop
 build-returns-4 t c =
     let l = c .before .before .loop in
     let a = c .before .before .before .before .before .before .args in
@@ -166,18 +196,26 @@ try-digit-add-next : (t : ℕ) → try-digit-lts.Need-add-next (try-digit-calls 
 try-digit-add-next t c = omega (arith, c .before .before .pre .1 .0 .rule .few-head)
 
 try-digit-mul-next : (t : ℕ) → try-digit-lts.Need-mul-next (try-digit-calls t) (try-digit-at t) try-digit.Post
-try-digit-mul-next t c = omega (arith, child-number _ _ _ _ _ _ _ _ _ (c .before .before .pre .1 .0) _ (c .before .before .pre .1 .1) (c .before .before .pre .1 .2))
+try-digit-mul-next t c =
+    let p = c .before .before .pre .1 in
+    omega (arith, child-number _ _ _ _ _ _ _ _ _ (p .0) _ (p .1) (p .2))
 
 try-digit-add-next-2 : (t : ℕ) → try-digit-lts.Need-add-next-2 (try-digit-calls t) (try-digit-at t) try-digit.Post
-try-digit-add-next-2 t c = omega (arith, child-number _ _ _ _ _ _ _ _ _ (c .before .before .pre .1 .0) _ (c .before .before .pre .1 .1) (c .before .before .pre .1 .2))
+try-digit-add-next-2 t c =
+    let p = c .before .before .pre .1 in
+    omega (arith, child-number _ _ _ _ _ _ _ _ _ (p .0) _ (p .1) (p .2))
 
 try-digit-add-if1 : (t : ℕ) → try-digit-lts.Need-add-if1 (try-digit-calls t) (try-digit-at t) try-digit.Post
-try-digit-add-if1 t c = omega (arith, child-number _ _ _ _ _ _ _ _ _ (c .before .before .pre .1 .0) _ (c .before .before .pre .1 .1) (c .before .before .pre .1 .2))
+try-digit-add-if1 t c =
+    let p = c .before .before .pre .1 in
+    omega (arith, child-number _ _ _ _ _ _ _ _ _ (p .0) _ (p .1) (p .2))
 
-try-digit-sub-choice-count : (t : ℕ) → try-digit-lts.Need-sub-choice-count (try-digit-calls t) (try-digit-at t) try-digit.Post
+try-digit-sub-choice-count : (t : ℕ)
+    → try-digit-lts.Need-sub-choice-count (try-digit-calls t) (try-digit-at t) try-digit.Post
 try-digit-sub-choice-count t c = omega arith
 
-try-digit-choice-count-requires : (t : ℕ) → try-digit-lts.Need-choice-count-requires (try-digit-calls t) (try-digit-at t) try-digit.Post
+try-digit-choice-count-requires : (t : ℕ)
+    → try-digit-lts.Need-choice-count-requires (try-digit-calls t) (try-digit-at t) try-digit.Post
 try-digit-choice-count-requires t c κs =
     let k = c .before .before .pre .1 .0 in
     (k .rule .some-head, k .rule .few-head, omega (arith, k .few))
@@ -188,7 +226,8 @@ try-digit-mul-if1 t c =
     rw (c .choice-count .ensures)
     (omega (arith, child-small _ _ _ _ _ _ _ _ _ (start .pre .1 .0) _ (start .pre .1 .1) (start .pre .1 .2)))
 
-try-digit-nothing-requires : (t : ℕ) → try-digit-lts.Need-nothing-requires (try-digit-calls t) (try-digit-at t) try-digit.Post
+try-digit-nothing-requires : (t : ℕ)
+    → try-digit-lts.Need-nothing-requires (try-digit-calls t) (try-digit-at t) try-digit.Post
 try-digit-nothing-requires t c κs = search needs
 
 try-digit-returns : (t : ℕ) → try-digit-lts.Need-returns (try-digit-calls t) (try-digit-at t) try-digit.Post
@@ -201,7 +240,8 @@ try-digit-returns t c =
     (atomAt desk (a .question .now) (a .i)) (a .question .now) (a .i + 5) (a .more - 1) (classesOf (a .table)) (a .d)
     (rw (c .before .before .choice-count .ensures) at (c .before .if1 .taken))))
 
-try-digit-put-atom-requires : (t : ℕ) → try-digit-lts.Need-put-atom-requires (try-digit-calls t) (try-digit-at t) try-digit.Post
+try-digit-put-atom-requires : (t : ℕ)
+    → try-digit-lts.Need-put-atom-requires (try-digit-calls t) (try-digit-at t) try-digit.Post
 try-digit-put-atom-requires t c κs =
     let start = c .before .before .before .before .before in
     let k = start .pre .1 .0 in
@@ -213,7 +253,8 @@ try-digit-add-build t c = omega arith
 try-digit-sub-build : (t : ℕ) → try-digit-lts.Need-sub-build (try-digit-calls t) (try-digit-at t) try-digit.Post
 try-digit-sub-build t c = omega arith
 
-try-digit-build-requires : (t : ℕ) → try-digit-lts.Need-build-requires (try-digit-calls t) (try-digit-at t) try-digit.Post
+try-digit-build-requires : (t : ℕ)
+    → try-digit-lts.Need-build-requires (try-digit-calls t) (try-digit-at t) try-digit.Post
 try-digit-build-requires t c κs =
     let start = c .before .before .before .before .before .before in
     let k = start .pre .1 .0 in
@@ -235,18 +276,22 @@ try-digit-returns-2 t c =
     (atomAt desk (a .question .now) (a .i)) (a .question .now) (a .i + 5) (a .more - 1) (classesOf (a .table)) (a .d) _
     (c .before .before .if2 .taken) (put .1))
 
-try-digit-sub-join-atoms : (t : ℕ) → try-digit-lts.Need-sub-join-atoms (try-digit-calls t) (try-digit-at t) try-digit.Post
+try-digit-sub-join-atoms : (t : ℕ)
+    → try-digit-lts.Need-sub-join-atoms (try-digit-calls t) (try-digit-at t) try-digit.Post
 try-digit-sub-join-atoms t c = omega arith
 
-try-digit-mul-join-atoms : (t : ℕ) → try-digit-lts.Need-mul-join-atoms (try-digit-calls t) (try-digit-at t) try-digit.Post
+try-digit-mul-join-atoms : (t : ℕ)
+    → try-digit-lts.Need-mul-join-atoms (try-digit-calls t) (try-digit-at t) try-digit.Post
 try-digit-mul-join-atoms t c = omega arith
 
-try-digit-add-join-atoms : (t : ℕ) → try-digit-lts.Need-add-join-atoms (try-digit-calls t) (try-digit-at t) try-digit.Post
+try-digit-add-join-atoms : (t : ℕ)
+    → try-digit-lts.Need-add-join-atoms (try-digit-calls t) (try-digit-at t) try-digit.Post
 try-digit-add-join-atoms t c =
     let start = c .before .before .before .before .before in
     omega (arith, start .pre .1 .0 .rule .head .fits, start .pre .1 .2)
 
-try-digit-join-atoms-requires : (t : ℕ) → try-digit-lts.Need-join-atoms-requires (try-digit-calls t) (try-digit-at t) try-digit.Post
+try-digit-join-atoms-requires : (t : ℕ)
+    → try-digit-lts.Need-join-atoms-requires (try-digit-calls t) (try-digit-at t) try-digit.Post
 try-digit-join-atoms-requires t c κs =
     let start = c .before .before .before .before .before in
     let k = start .pre .1 .0 in (
@@ -255,7 +300,8 @@ try-digit-join-atoms-requires t c κs =
       nth-sound _ _ (start .args .d - 1) _ (omega (arith, start .pre .1 .2)) (k .rule .head .sound),
     )
 
-try-digit-nothing-requires-2 : (t : ℕ) → try-digit-lts.Need-nothing-requires-2 (try-digit-calls t) (try-digit-at t) try-digit.Post
+try-digit-nothing-requires-2 : (t : ℕ)
+    → try-digit-lts.Need-nothing-requires-2 (try-digit-calls t) (try-digit-at t) try-digit.Post
 try-digit-nothing-requires-2 t c κs = search needs
 
 try-digit-returns-3 : (t : ℕ) → try-digit-lts.Need-returns-3 (try-digit-calls t) (try-digit-at t) try-digit.Post
@@ -276,7 +322,8 @@ try-digit-add-build-2 t c = omega arith
 try-digit-sub-build-2 : (t : ℕ) → try-digit-lts.Need-sub-build-2 (try-digit-calls t) (try-digit-at t) try-digit.Post
 try-digit-sub-build-2 t c = omega arith
 
-try-digit-build-requires-2 : (t : ℕ) → try-digit-lts.Need-build-requires-2 (try-digit-calls t) (try-digit-at t) try-digit.Post
+try-digit-build-requires-2 : (t : ℕ)
+    → try-digit-lts.Need-build-requires-2 (try-digit-calls t) (try-digit-at t) try-digit.Post
 try-digit-build-requires-2 t c κs =
     let start = c .before .before .before .before .before .before .before .before in
     let k = start .pre .1 .0 in

@@ -1,5 +1,5 @@
--- `unify::builder::judged` meets its contract: before the start nothing, nothing where the choice is not valid, else its
--- rewriting.
+-- `unify::builder::judged` meets its contract: before the start nothing, nothing where the choice is not valid, else
+-- its rewriting.
 use borrow.Author.Needs.{needs}
 use mathlib.Core.Bool.{true}
 use mathlib.Core.List.{List}

@@ -1,5 +1,5 @@
--- `unify::joining::join` meets its contract: a class joined with itself, a variable's class with another, a constant's
--- with a variable's, and two constants.
+-- `unify::joining::join` meets its contract: a class joined with itself, a variable's class with another, a
+-- constant's with a variable's, and two constants.
 use borrow.Author.Needs.{needs}
 use mathlib.Core.Path.{refl, sym, ap, _∙_}
 use mathlib.Core.Option.{some}
@@ -14,7 +14,9 @@ returns : tie.Need-returns
 returns c =
     let a = c .before .args in
     said-yes _ refl
-    ∙ sym (ap (λ x. joinTable (classesOf (a .table)) (termOf (a .a)) (termOf x)) (sym (c .if1 .taken)) ∙ join-self (classesOf (a .table)) (termOf (a .a)))
+    ∙ sym
+    (ap (λ x. joinTable (classesOf (a .table)) (termOf (a .a)) (termOf x)) (sym (c .if1 .taken))
+    ∙ join-self (classesOf (a .table)) (termOf (a .a)))
 
 replaced-requires : tie.Need-replaced-requires
 replaced-requires c κs = search needs

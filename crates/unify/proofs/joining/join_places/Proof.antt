@@ -1,5 +1,6 @@
--- `unify::joining::join_places` meets its contract. The loop's invariant: putting all places together is putting those from
--- the j-th on together under the classes so far, and the head's are sound. The measure is the number of places left.
+-- `unify::joining::join_places` meets its contract. The loop's invariant: putting all places together is putting
+-- those from the j-th on together under the classes so far, and the head's are sound. The measure is the number of
+-- places left.
 use borrow.Author.Needs.{needs}
 use native.Mathlib.Omega.{arith}
 use mathlib.Core.Path.{ap, ap₂, _≡_, refl, sym, _∙_}

@@ -1,5 +1,5 @@
--- `unify::joining::replaced` meets its contract. The loop's invariant: the entries before i are done. The measure is the
--- number of entries left.
+-- `unify::joining::replaced` meets its contract. The loop's invariant: the entries before i are done. The measure is
+-- the number of entries left.
 use borrow.Author.Needs.{needs}
 use native.Mathlib.Omega.{arith}
 use mathlib.Core.Path.{_≡_, sym, ap, _∙_}

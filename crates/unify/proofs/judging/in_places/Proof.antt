@@ -1,5 +1,5 @@
--- `unify::judging::in_places` meets its contract. The loop's invariant: the term stands in the places exactly where it
--- stands in those from the j-th on. The measure is the number of places left.
+-- `unify::judging::in_places` meets its contract. The loop's invariant: the term stands in the places exactly where
+-- it stands in those from the j-th on. The measure is the number of places left.
 use native.Mathlib.Omega.{arith}
 use native.Mathlib.Nat.{add-zero}
 use mathlib.Core.Path.{_≡_, refl, sym, _∙_}

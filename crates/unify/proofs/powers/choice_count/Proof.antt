@@ -1,4 +1,5 @@
--- `unify::powers::choice_count` meets its contract: the rule of the table is one test that is computed at every entry.
+-- `unify::powers::choice_count` meets its contract: the rule of the table is one test that is computed at every
+-- entry.
 use borrow.Author.Needs.{needs}
 use native.Mathlib.Omega.{arith}
 use mathlib.Core.Path.{_≡_}

@@ -1,5 +1,5 @@
--- `unify::writing::put_all` meets its contract. The loop's invariant: what is to be held is what is held already with the
--- atoms from here on, and there is room for them. The measure is their number.
+-- `unify::writing::put_all` meets its contract. The loop's invariant: what is to be held is what is held already with
+-- the atoms from here on, and there is room for them. The measure is their number.
 use native.Mathlib.Omega.{arith}
 use mathlib.Core.Path.{_≡_, refl, sym, ap, _∙_}
 use mathlib.Core.List.{_++_}
@@ -10,7 +10,8 @@ use Rattle.cover.specs.Building.{subOf}
 use Rattle.unify.specs.Held.{inBook, Filling}
 use lib.ListN.{length}
 use borrow.Author.Needs.{needs}
-use Rattle.unify.proofs.Written.{first-in, rest-in, first-fits, atom-on, filling-room, filling-put, put-more, put-none}
+use Rattle.unify.proofs.Written.{first-in, rest-in, first-fits, atom-on, filling-room, filling-put, put-more}
+use Rattle.unify.proofs.Written.{put-none}
 use Rattle.unify.proofs.writing.put_all.Statement.{statement}
 use Rattle.unify.proofs.writing.put_all.Tie as tie
 
