@@ -23,7 +23,7 @@ use Rattle.cover.proofs.Wider.{atom-means}
 use Rattle.cover.proofs.Steps.{sound-more}
 use Rattle.book.specs.declared.Parts.{Parts}
 use Rattle.unify.specs.declared.Found.{Found}
-use Rattle.unify.specs.Choice.{count, atomPairs, toHead}
+use Rattle.unify.specs.Choice.{count, mostChoices, atomPairs, toHead}
 use Rattle.unify.specs.Step.{up, move, Below, next}
 use Rattle.unify.specs.Build.{first, firstAt}
 use Rattle.unify.specs.Table.{Table, own, unifyTable, tableBuilder}
@@ -180,7 +180,7 @@ joined-fit a b table table′ fa fb f e =
 -- a prefix with one digit more
 module _ (Q B : List ℕ) (p : Parts) (i more number : ℕ) (sent : Bool) (A table : List ℕ)
     (k : Asks Q B p i more number sent A table) (d : ℕ) (h : 0 < more) (le : d ≤ p .heads) where
-  pub child-small : suc (number * (p .heads + 1) + d) * count (p .heads) (more - 1) ≤ 390625
+  pub child-small : suc (number * (p .heads + 1) + d) * count (p .heads) (more - 1) ≤ mostChoices
   child-small =
       let one : number * (p .heads + 1) + d ≡ number * suc (p .heads) + d = omega arith in
       let two : suc (more - 1) ≡ more = omega arith in
@@ -190,7 +190,7 @@ module _ (Q B : List ℕ) (p : Parts) (i more number : ℕ) (sent : Bool) (A tab
       rw one (omega (arith, three, four, k .small))
 
   -- so its number is small
-  pub child-number : number * (p .heads + 1) + d + 1 ≤ 390625
+  pub child-number : number * (p .heads + 1) + d + 1 ≤ mostChoices
   child-number =
       let x = number * (p .heads + 1) + d in
       let one : suc x * 1 ≤ suc x * count (p .heads) (more - 1) = mul-le-mul-left (suc x) (count-some (p .heads) (more - 1)) in
@@ -282,13 +282,14 @@ own-fits i (suc n) h t m = go (List·Memᴰ·cases-cons m) (λ k. own-fits (suc 
 pub apart-fit : (table : List ℕ) → classesOf table ≡ own 0 64 → ClassesFit table
 apart-fit table e t m = own-fits 0 64 (omega arith) t (subst (λ l. t ∈ l) e m)
 
--- there are at most 390,625 choices, by one computed test
+-- there are no more choices than that, by one computed test
 few : ℕ → ℕ → Bool
-few h n = leb (count h n) 390625
+few h n = leb (count h n) mostChoices
 
-pub count-few : (h n : ℕ) → h ≤ 4 → n ≤ 8 → count h n ≤ 390625
+pub count-few : (h n : ℕ) → h ≤ 4 → n ≤ 8 → count h n ≤ mostChoices
 unfolding few
-count-few h n a b = leb→le (count h n) 390625 (at 9 (few h) (at 5 (λ i. below 9 (few i)) tt h (omega arith)) n (omega arith))
+count-few h n a b =
+    leb→le (count h n) mostChoices (at 9 (few h) (at 5 (λ i. below 9 (few i)) tt h (omega arith)) n (omega arith))
 
 fits-below : (A : Question) → ((a : Atom) → a ∈ A → AtomFits inBook a) → Below 32 A
 fits-below A f n m = let r = terms-out A m in f (r .0) (r .1) .terms (Term.var n) (r .2)

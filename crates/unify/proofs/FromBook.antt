@@ -19,7 +19,7 @@ use Rattle.book.specs.Parts.{partsAt, QuestionRecord}
 use Rattle.book.proofs.Sound.{Room, sound-header, sound-rule, sound-question, sound-body, sound-head, sound-atoms}
 use Rattle.book.proofs.FromCover.{Copied, are-copied, question-at}
 use Rattle.unify.specs.declared.Found.{Found}
-use Rattle.unify.specs.Choice.{count}
+use Rattle.unify.specs.Choice.{mostChoices}
 use Rattle.unify.specs.Step.{next}
 use Rattle.unify.specs.Held.{inBook, ruleIn, ruleOf, answered, RuleIn, QuestionIn}
 use Rattle.unify.proofs.Following.{next-listed, listed-below}
@@ -87,11 +87,11 @@ module _ (Q B : List ℕ) (p : Parts) (q : QuestionIn Q) (r : RuleIn B p) (from 
   long = ap length (question-at desk Q refl) ∙ count-atoms desk Q (getD Q 0 0) 1
 
   pub found-within : (f : Found) → f ≡ answered (next 32 (ruleOf B p) (questionOf desk Q) from) → f .found ≡ true
-      → (from ≤ f .choice) × (f .choice < 390625)
+      → (from ≤ f .choice) × (f .choice < mostChoices)
   found-within f e t = go (next 32 (ruleOf B p) (questionOf desk Q) from) refl e
     where
       go : (o : Option (ℕ × Question)) → next 32 (ruleOf B p) (questionOf desk Q) from ≡ o → f ≡ answered o
-          → (from ≤ f .choice) × (f .choice < 390625)
+          → (from ≤ f .choice) × (f .choice < mostChoices)
       go none o a =
           let z : true ≡ false = sym t ∙ ap (λ (x : Found). x .found) a in
           let y : _≡_ {A = ℕ} 0 1 = cc in

@@ -7,28 +7,19 @@ use mathlib.Core.List.{List, [], _∷_, _++_, map}
 use Prim.Native.Nat.{ℕ, _+_, _≤_, _<_}
 use native.Mathlib.Omega.{arith}
 use borrow.Author.Tests.{eqb-true, eqb-false, eq-eqb, ne-eqb}
-use lib.Dec.{T, eqb, ltb, leb, ltb→lt, leb→le}
+use lib.Dec.{eqb}
 use lib.ListN.{getD}
 use Rattle.cover.specs.Lists.{any, all}
 use Rattle.cover.specs.Term.{Term, var, con, Question, Sub, on-term, on-question, on-atom, terms, eqTerm}
-use Rattle.cover.specs.Record.{Layout, desk, termOf, atomsAt, isTerm}
+use Rattle.cover.specs.Record.{desk, termOf, atomsAt}
 use Rattle.cover.proofs.Bytes.{term-var, term-con, term-same}
-use Rattle.cover.proofs.Lists.{either, fst-of, or-cases, map-none}
+use Rattle.cover.proofs.Lists.{either, map-none}
 use Rattle.cover.proofs.Terms.{on-atom-fixed, terms-on}
 use Rattle.book.specs.Rule.{Rule}
 use Rattle.unify.specs.Step.{up, move, isVar, memTerm, isUnknown, guarded, safe}
 use Rattle.unify.specs.Table.{Table, look, tabled}
 use Rattle.unify.specs.Held.{ruleIn, classesOf}
 use Rattle.unify.proofs.EachTerm.{all-append}
-
--- a term's byte is a variable's or a constant's
-pub term-above : (L : Layout) (b : ℕ) → T (isTerm L b) → L .variables ≤ b → 128 ≤ b
-unfolding isTerm
-term-above L b t le = go (or-cases (ltb b (L .variables)) (leb 128 b && ltb b (128 + L .constants)) t)
-  where
-    go : T (ltb b (L .variables)) ⊎ T (leb 128 b && ltb b (128 + L .constants)) → 128 ≤ b
-    go (inl h) = let x = ltb→lt b (L .variables) h in omega arith
-    go (inr h) = leb→le 128 b (fst-of (leb 128 b) (ltb b (128 + L .constants)) h)
 
 -- a byte moved up by k
 pub up-variable : (k u : ℕ) → k + u < 128 → termOf (k + u) ≡ on-term (up k) (termOf u)

@@ -15,7 +15,7 @@ use Rattle.book.specs.Rule.{Rule}
 use Rattle.book.specs.declared.Parts.{Parts}
 use Rattle.unify.specs.declared.Joined.{Joined}
 use Rattle.unify.specs.declared.Found.{Found}
-use Rattle.unify.specs.Choice.{count}
+use Rattle.unify.specs.Choice.{count, mostChoices}
 use Rattle.unify.specs.Table.{Table}
 
 -- what a rule's atoms and a question's keep to: variables 0 to 31
@@ -87,5 +87,5 @@ pub record Asks (Q B : List ℕ) (p : Parts) (i more number : ℕ) (sent : Bool)
   pub left : LeftIn A
   pub few : getD A 0 0 + more ≤ 8
   pub fewer : sent ≡ true → getD A 0 0 + more ≤ 7
-  pub small : suc number * count (p .heads) more ≤ 390625
+  pub small : suc number * count (p .heads) more ≤ mostChoices
   pub classes : ClassesFit table

@@ -1,18 +1,19 @@
--- The numbers asked from rise, and no choice's number reaches 390,625. Assumes nothing.
+-- The numbers asked from rise, and no choice's number reaches the count of them. Assumes nothing.
 use borrow.Author.Needs.{needs}
 use native.Mathlib.Omega.{arith}
 use mathlib.Core.Path.{_≡_, refl, sym}
 use mathlib.Core.Bool.{Bool, true, false, not}
 use Prim.Native.Nat.{_-_, _≤_, _<_}
+use Rattle.unify.specs.Choice.{mostChoices}
 use Rattle.unify.proofs.FromBook.{found-within}
 use Rattle.rewriting_examples.proofs.list.Statement.{statement}
 use Rattle.rewriting_examples.proofs.list.Tie as tie
 
 abbrev Inv-loop : tie.InvT-loop
-Inv-loop question book rule from₀ from = from ≤ 390625
+Inv-loop question book rule from₀ from = from ≤ mostChoices
 
 abbrev μ-loop : tie.MeasureT-loop
-μ-loop question book rule from₀ from = 390625 - from
+μ-loop question book rule from₀ from = mostChoices - from
 
 was-found : (b : Bool) → not b ≡ false → b ≡ true
 was-found true e = refl
@@ -21,7 +22,7 @@ was-found false e = sym e
 -- what was found is numbered from where it was asked on, and below the count of choices
 within : (c : tie.After-show Inv-loop μ-loop)
     → (c .before .before .before .before .before .before .loop .from ≤ c .before .before .before .before .next .result .choice)
-    × (c .before .before .before .before .next .result .choice < 390625)
+    × (c .before .before .before .before .next .result .choice < mostChoices)
 within c =
     let n = c .before .before .before .before in
     let s = n .before .before .before .before .before in

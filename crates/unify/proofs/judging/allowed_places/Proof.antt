@@ -11,11 +11,11 @@ use lib.Dec.{T}
 use Rattle.cover.specs.Lists.{all}
 use Rattle.cover.specs.Term.{on-term}
 use Rattle.cover.specs.Record.{argsAt, usedFirst}
-use Rattle.cover.proofs.Bytes.{used-more}
+use Rattle.cover.proofs.Bytes.{used-more, term-constant}
 use Rattle.unify.specs.Step.{up}
 use Rattle.unify.specs.Held.{inBook}
 use Rattle.unify.proofs.EachTerm.{each-place-end, each-place-fails, each-place-passes, each-place-none}
-use Rattle.unify.proofs.Judged.{term-above, allowedByte}
+use Rattle.unify.proofs.Judged.{allowedByte}
 use Rattle.unify.proofs.judging.allowed_places.Statement.{statement}
 use Rattle.unify.proofs.judging.allowed_places.Tie as tie
 
@@ -49,7 +49,7 @@ is-allowed-requires c κs =
     let s = l .before .before .before in
     let a = s .args in
     let u = used-more (a .book .now) (a .i) (l .loop .j) 4 (omega arith) inBook (l .loop .inv .1) (c .if1 .left) in
-    (s .pre .0, s .pre .1, s .pre .2, term-above inBook _ (u .0))
+    (s .pre .0, s .pre .1, s .pre .2, term-constant inBook _ (u .0))
 
 returns-2 : tie.Need-returns-2 Inv-loop μ-loop
 returns-2 c =

@@ -11,11 +11,11 @@ use lib.Dec.{T}
 use Rattle.cover.specs.Lists.{all}
 use Rattle.cover.specs.Term.{on-term}
 use Rattle.cover.specs.Record.{argsAt, usedFirst}
-use Rattle.cover.proofs.Bytes.{used-more}
+use Rattle.cover.proofs.Bytes.{used-more, term-constant}
 use Rattle.unify.specs.Step.{up}
 use Rattle.unify.specs.Held.{inBook}
 use Rattle.unify.proofs.EachTerm.{each-place-end, each-place-fails, each-place-passes, each-place-none}
-use Rattle.unify.proofs.Judged.{term-above, apartByte}
+use Rattle.unify.proofs.Judged.{apartByte}
 use Rattle.unify.proofs.judging.apart_places.Statement.{statement}
 use Rattle.unify.proofs.judging.apart_places.Tie as tie
 
@@ -47,7 +47,7 @@ shifted-requires c κs =
     let l = c .before .before .before in
     let a = l .before .before .args in
     let u = used-more (a .s .now) (a .i) (l .loop .j) 4 (omega arith) inBook (l .loop .inv .1) (c .if1 .left) in
-    (term-above inBook _ (u .0), omega arith)
+    (term-constant inBook _ (u .0), omega arith)
 
 is-apart-requires : tie.Need-is-apart-requires Inv-loop μ-loop
 is-apart-requires c κs = search needs
