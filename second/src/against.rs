@@ -9,6 +9,9 @@ use std::sync::mpsc;
 use std::thread;
 use std::time::Duration;
 
+/// How long one start of another program may take, where a command line names it.
+pub const PATIENCE: Duration = Duration::from_secs(300);
+
 /// A program to compare with.
 pub struct Against {
     command: Vec<String>,
@@ -97,6 +100,15 @@ impl Against {
                 Ok((output, Some("it took too long".into())))
             }
         }
+    }
+}
+
+/// The program that the rest of a command line names, after `--against`.
+pub fn command(words: impl Iterator<Item = String>, patience: Duration) -> Result<Against, String> {
+    let command: Vec<String> = words.collect();
+    match command.is_empty() {
+        true => Err("--against wants a command".into()),
+        false => Ok(Against::new(command, patience)),
     }
 }
 

@@ -34,3 +34,19 @@ pub mod unify;
 pub mod union;
 pub mod watch;
 pub mod way;
+
+use std::process::ExitCode;
+
+/// How a command ends: what it has to show, or on standard error what is wrong.
+pub fn finish(result: Result<String, String>) -> ExitCode {
+    match result {
+        Ok(text) => {
+            print!("{text}");
+            ExitCode::SUCCESS
+        }
+        Err(what) => {
+            eprintln!("{what}");
+            ExitCode::FAILURE
+        }
+    }
+}

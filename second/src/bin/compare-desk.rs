@@ -3,11 +3,10 @@
 //! of four bytes and then its bytes; it writes a line `covers K keep first` (or `second`
 //! or `none`), then a line with a single full stop.
 
-use second::against::Against;
+use second::against::{command, Against, PATIENCE};
 use second::pairs::{answer, kind, next, Pair, KINDS};
 use second::random::Random;
 use std::process::ExitCode;
-use std::time::Duration;
 
 /// How many pairs go into one start of the other program.
 const BATCH: usize = 5000;
@@ -29,11 +28,7 @@ fn asked() -> Result<Asked, String> {
     let mut words = std::env::args().skip(1);
     while let Some(word) = words.next() {
         if word == "--against" {
-            let command: Vec<String> = words.by_ref().collect();
-            if command.is_empty() {
-                return Err("--against wants a command".into());
-            }
-            asked.against = Some(Against::new(command, Duration::from_secs(300)));
+            asked.against = Some(command(words, PATIENCE)?);
             break;
         }
         let value = words.next().and_then(|value| value.parse().ok());

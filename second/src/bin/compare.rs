@@ -5,7 +5,7 @@
 //! the books in DIR and some made on purpose. Fails at the first difference, and if a
 //! behaviour of the paper was not met.
 
-use second::against::Against;
+use second::against::{command, Against, PATIENCE};
 use second::compare::{Comparison, Named};
 use second::seen::Behaviour;
 use second::{generate, limits, random::Random};
@@ -15,9 +15,6 @@ use std::time::{Duration, Instant};
 
 /// How many generated books go into one start of the other program.
 const BATCH: usize = 500;
-
-/// How long one start of the other program may take.
-const PATIENCE: Duration = Duration::from_secs(300);
 
 /// What the command line asks for.
 struct Asked {
@@ -42,11 +39,7 @@ fn asked() -> Result<Asked, String> {
     let mut words = std::env::args().skip(1);
     while let Some(word) = words.next() {
         if word == "--against" {
-            let command: Vec<String> = words.by_ref().collect();
-            if command.is_empty() {
-                return Err("--against wants a command".into());
-            }
-            asked.against = Some(Against::new(command, PATIENCE));
+            asked.against = Some(command(words, PATIENCE)?);
             break;
         }
         let value = words.next().ok_or(format!("{word} wants a value"))?;

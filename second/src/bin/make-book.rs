@@ -1,6 +1,6 @@
 //! Turns the source of a book into its bytes: `make-book SOURCE BOOK`.
 
-use second::{book, source};
+use second::{book, finish, source};
 use std::process::ExitCode;
 
 /// Reads the source and writes the book.
@@ -17,11 +17,5 @@ fn main() -> ExitCode {
         [from, to] => make(from, to),
         _ => Err("make-book SOURCE BOOK".into()),
     };
-    match made {
-        Ok(()) => ExitCode::SUCCESS,
-        Err(what) => {
-            eprintln!("{what}");
-            ExitCode::FAILURE
-        }
-    }
+    finish(made.map(|()| String::new()))
 }

@@ -2,7 +2,7 @@
 //! bytes back.
 
 use second::seen::Seen;
-use second::{book, source};
+use second::{book, finish, source};
 use std::process::ExitCode;
 
 /// The source for the book in this file.
@@ -20,14 +20,5 @@ fn main() -> ExitCode {
         [from] => show(from),
         _ => Err("show-book BOOK".into()),
     };
-    match shown {
-        Ok(text) => {
-            print!("{text}");
-            ExitCode::SUCCESS
-        }
-        Err(what) => {
-            eprintln!("{what}");
-            ExitCode::FAILURE
-        }
-    }
+    finish(shown)
 }

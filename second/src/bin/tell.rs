@@ -3,8 +3,8 @@
 
 use second::explore::{explore_by, Outcome};
 use second::seen::Seen;
-use second::source;
 use second::way::Way;
+use second::{finish, source};
 use std::process::ExitCode;
 
 /// The union of this source, a line a member, or the refusal.
@@ -33,14 +33,5 @@ fn main() -> ExitCode {
         [from, "--old-way"] | ["--old-way", from] => tell(from, Way::OnePiece),
         _ => Err("tell SOURCE [--old-way]".into()),
     };
-    match told {
-        Ok(text) => {
-            print!("{text}");
-            ExitCode::SUCCESS
-        }
-        Err(what) => {
-            eprintln!("{what}");
-            ExitCode::FAILURE
-        }
-    }
+    finish(told)
 }
