@@ -1,6 +1,12 @@
 -- Nine words, each where the header has it. Assumes nothing.
 use borrow.Author.Needs.{needs}
 use native.Mathlib.Omega.{arith}
+use mathlib.Core.Path.{_≡_}
+use mathlib.Core.List.{List}
+use Prim.Native.Nat.{ℕ}
+use Rattle.book.specs.declared.Header.{Header}
+use Rattle.book.specs.Header.{relations, constants, rules, atoms, allowed, relationsAt, rulesAt, questionAt}
+use Rattle.book.specs.Header.{total, headerOf}
 use Rattle.book.proofs.read.Statement.{statement}
 use Rattle.book.proofs.read.Tie as tie
 
@@ -31,10 +37,33 @@ word-requires-8 c κs = search needs
 word-requires-9 : tie.Need-word-requires-9
 word-requires-9 c κs = search needs
 
+-- the header of the nine words that were read
+header-is : (B : List ℕ) {p c r n l t s q w : ℕ} → p ≡ relations B → c ≡ constants B → r ≡ rules B → n ≡ atoms B
+    → l ≡ allowed B → t ≡ relationsAt B → s ≡ rulesAt B → q ≡ questionAt B → w ≡ total B
+    → _≡_ {A = Header}
+    (record {
+      relations = p;
+      constants = c;
+      rules = r;
+      atoms = n;
+      allowed = l;
+      table = t;
+      start = s;
+      question = q;
+      total = w;
+    })
+    (headerOf B)
+header-is B p c r n l t s q w = cc
+
 returns : tie.Need-returns
 returns c =
+    let w6 = c .before .before .before in
+    let w3 = w6 .before .before .before in
     record {
-      is = cc;
+      is =
+          header-is _ (w3 .before .before .word .ensures .0) (w3 .before .word2 .ensures .0) (w3 .word3 .ensures .0)
+          (w6 .before .before .word4 .ensures .0) (w6 .before .word5 .ensures .0) (w6 .word6 .ensures .0)
+          (c .before .before .word7 .ensures .0) (c .before .word8 .ensures .0) (c .word9 .ensures .0);
       relations-fit = omega (arith, c .before .before .before .before .before .before .before .before .word .ensures);
       atoms-fit = omega (arith, c .before .before .before .before .before .word4 .ensures);
       question-fits = omega (arith, c .before .word8 .ensures);

@@ -1,5 +1,11 @@
 -- The two counts give the rest. Assumes nothing.
 use borrow.Author.Needs.{needs}
+use mathlib.Core.Path.{_≡_}
+use mathlib.Core.List.{List}
+use Prim.Native.Nat.{ℕ, _+_, _*_}
+use Rattle.book.specs.declared.Parts.{Parts}
+use Rattle.book.specs.Word.{byte}
+use Rattle.book.specs.Parts.{partsAt}
 use Rattle.book.proofs.rule_at.Statement.{statement}
 use Rattle.book.proofs.rule_at.Tie as tie
 
@@ -30,8 +36,16 @@ mul-t10 c = search needs
 add-t11 : tie.Need-add-t11
 add-t11 c = search needs
 
+-- the parts by the counts b and h that were read
+parts-are : (B : List ℕ) (s : ℕ) {b h : ℕ} → b ≡ byte B s → h ≡ byte B (s + 1)
+    → _≡_ {A = Parts} (record { body = s + 2; bodies = b; head = s + 2 + 5 * b; heads = h }) (partsAt B s)
+parts-are B s b h = cc
+
 returns : tie.Need-returns
-returns c = cc
+returns c =
+    let first = c .before .before in
+    let start = first .before .before .before in
+    parts-are (start .args .book .now) (start .args .s) (first .wide .ensures .0) (c .wide2 .ensures .0)
 
 pub rule-at-spec : {M : Type 1} → statement M
 rule-at-spec =

@@ -1,8 +1,14 @@
 -- The counts fit and are 1 to 4, and the end is no later than it may be: the parts of `ruleRight`. Assumes nothing.
 use borrow.Author.Needs.{needs}
 use native.Mathlib.Omega.{arith}
-use mathlib.Core.Path.{_≡_}
-use mathlib.Core.Bool.{true, false}
+use mathlib.Core.Path.{_≡_, sym, _∙_}
+use mathlib.Core.Bool.{Bool, true, false, cond, _&&_}
+use mathlib.Core.List.{List}
+use Prim.Native.Nat.{ℕ, _+_, _*_}
+use lib.Dec.{leb}
+use Rattle.book.specs.Word.{byte}
+use Rattle.book.specs.Header.{inside, bodyRange, headRange}
+use Rattle.book.specs.Book.{ruleEnd}
 use Rattle.book.specs.Verdict.{ruleRight}
 use Rattle.book.proofs.Steps.{rule-short}
 use Rattle.book.proofs.judge.rule_end.Statement.{statement}
@@ -49,19 +55,33 @@ within-requires c κs = search needs
 within-requires-2 : tie.Need-within-requires-2
 within-requires-2 c κs = search needs
 
+-- the answer by the counts b and h that were read, and the tests x and y of them
+module _ (B : List ℕ) (e s : ℕ) {b h : ℕ} {x y : Bool} (is-b : b ≡ byte B s) (is-h : h ≡ byte B (s + 1))
+    (is-x : x ≡ inside bodyRange b) (is-y : y ≡ inside headRange h) where
+  tested : x && (y && leb (s + 2 + 5 * (b + h)) e) ≡ ruleRight B e s
+  unfolding ruleRight
+  tested = cc
+
+  right : x && (y && leb (s + 2 + 5 * (b + h)) e) ≡ true
+      → s + 2 + 5 * (b + h) ≡ cond (ruleRight B e s) (ruleEnd B s) 0
+  right t = rw (sym tested ∙ t) (cc)
+
+  wrong : x && (y && leb (s + 2 + 5 * (b + h)) e) ≡ false → 0 ≡ cond (ruleRight B e s) (ruleEnd B s) 0
+  wrong t = rw (sym tested ∙ t)
+
 returns-2 : tie.Need-returns-2
-unfolding ruleRight
 returns-2 c =
-    let start = c .before .before .before .before .before .before .before .before .before in
-    let f : ruleRight (start .args .book .now) (start .args .end) (start .args .s) ≡ true = cc in
-    rw f (cc)
+    let counts = c .before .before .before in
+    let start = counts .before .before .before .before .before .before in
+    right (start .args .book .now) (start .args .end) (start .args .s) (counts .before .before .wide .ensures .0)
+    (counts .wide2 .ensures .0) (c .before .before .within .ensures) (c .before .within2 .ensures) (c .if2 .taken)
 
 returns-3 : tie.Need-returns-3
-unfolding ruleRight
 returns-3 c =
-    let start = c .before .before .before .before .before .before .before .before .before in
-    let f : ruleRight (start .args .book .now) (start .args .end) (start .args .s) ≡ false = cc in
-    rw f
+    let counts = c .before .before .before in
+    let start = counts .before .before .before .before .before .before in
+    wrong (start .args .book .now) (start .args .end) (start .args .s) (counts .before .before .wide .ensures .0)
+    (counts .wide2 .ensures .0) (c .before .before .within .ensures) (c .before .within2 .ensures) (c .if2 .left)
 
 pub rule-end-spec : {M : Type 1} → statement M
 rule-end-spec =
