@@ -119,7 +119,7 @@ module _ (L : Layout) (ap-L : Apart L) where
           }
 
 -- equal atoms dropped
-keep-few : {A : Type 0} (p : A → Bool) (l : List A) → length (keep p l) ≤ length l
+pub keep-few : {A : Type 0} (p : A → Bool) (l : List A) → length (keep p l) ≤ length l
 keep-few p [] = omega arith
 keep-few p (x ∷ l) = go (p x) (keep-few p l)
   where

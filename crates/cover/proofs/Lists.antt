@@ -68,6 +68,23 @@ pub no→false : (b : Bool) → (T b → ⊥) → b ≡ false
 no→false true f = absurd (f tt)
 no→false false f = refl
 
+pub T→false : (b : Bool) → T (not b) → b ≡ false
+T→false true t = absurd t
+T→false false t = refl
+
+pub false→T : (b : Bool) → b ≡ false → T (not b)
+false→T true e = absurd (false→no true e tt)
+false→T false e = tt
+
+-- a test that was turned round
+pub not-true : (b : Bool) → not b ≡ true → b ≡ false
+not-true true e = sym e
+not-true false e = refl
+
+pub not-false : (b : Bool) → not b ≡ false → b ≡ true
+not-false true e = refl
+not-false false e = sym e
+
 pub same-bool : (a b : Bool) → (T a → T b) → (T b → T a) → a ≡ b
 same-bool true true f g = refl
 same-bool true false f g = absurd (f tt)

@@ -86,7 +86,7 @@ gather-append f [] t = refl
 gather-append {B = B} f (x ∷ s) t =
     ap (λ (l : List B). f x ++ l) (gather-append f s t) ∙ sym (append-assoc (f x) (gather f s) (gather f t))
 
-rest-free : (m k : ℕ) → m ≤ k → drop {A = ℕ} m (replicate k 255) ≡ replicate (k - m) 255
+pub rest-free : (m k : ℕ) → m ≤ k → drop {A = ℕ} m (replicate k 255) ≡ replicate (k - m) 255
 rest-free m k h =
     ap (drop {A = ℕ} m) (ap (λ x. replicate x 255) (sym back) ∙ sym (replicate-append-replicate m (k - m) 255))
     ∙ drop-at (replicate m 255) (replicate (k - m) 255) m (length-replicate m 255)

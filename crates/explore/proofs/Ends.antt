@@ -11,14 +11,22 @@ use Prim.Native.Nat.{ℕ, zero, suc, _+_, _-_}
 use native.Mathlib.Omega.{arith}
 use lib.Dec.{T}
 use Rattle.cover.specs.Term.{Question}
-use Rattle.cover.proofs.Lists.{decide}
-use Rattle.explore.specs.Run.{Test, Limits, State, none-left, Admission, Pass, Outcome, refused, onPass}
-use Rattle.explore.specs.Run.{oldest, takenUp, start, appended, through, exploring, runBy}
+use Rattle.cover.proofs.Lists.{decide, T→true, T→false}
+use Rattle.explore.specs.Run.{Test, Limits, State, Why, none-left, Admission, stopped, Pass, passed, failed}
+use Rattle.explore.specs.Run.{Outcome, refused, onPass, oldest, takenUp, start, appended, admit, through}
+use Rattle.explore.specs.Run.{exploring, runBy}
 use Rattle.explore.specs.Steps.{Position, between, within, Admitted, Reaches, begins, takes-up, drops, appends}
 use Rattle.explore.specs.Steps.{stops, finishes, Ends, completes, eight, nine, ten}
-use Rattle.explore.proofs.Admits.{Admits, was-covered, was-long, was-full, was-admitted, admits, through-none}
+use Rattle.explore.proofs.Admits.{Admits, was-covered, was-long, was-full, was-admitted, admits, admit-is}
+use Rattle.explore.proofs.Admits.{through-none}
 use Rattle.explore.proofs.Turns.{turn-dropped, turn-refused, turn-appended, turn-stopped}
 use Rattle.explore.proofs.Turns.{turn-complete, turn-ten, turn-explores}
+
+passed-injective : {s t : State} → passed s ≡ passed t → s ≡ t
+passed-injective {s} e = ap (λ (p : Pass). onPass p (λ x. x) (λ w. s)) e
+
+failed≢passed : {w : Why} {t : State} → failed w ≡ passed t → ⊥
+failed≢passed e = let z : _≡_ {A = ℕ} 0 1 = ap (λ (p : Pass). onPass p (λ x. 1) (λ w. 0)) e in omega arith
 
 module _ (cov : Test) (lim : Limits) (steps : Question → List Question) (allowed : ℕ) (Q : Question) where
   abbrev Comes : Position → Type 0
@@ -45,14 +53,44 @@ module _ (cov : Test) (lim : Limits) (steps : Question → List Question) (allow
 
       added : Admitted cov lim s P → T (cov P M) ⊎ T (not (cov P M)) → Rest → Passes (through cov lim M (P ∷ Ps) s)
       added a (inl t) rest =
-          subst Passes (sym (turn-stopped cov lim M P Ps s a t)) (then (appended cov s P) (stops c a t))
+          subst Passes (sym (turn-stopped cov lim M P Ps s (admit-is cov lim (was-admitted a)) (T→true (cov P M) t))) (then (appended cov s P) (stops c a t))
       added a (inr t) rest =
-          subst Passes (sym (turn-appended cov lim M P Ps s a t)) (rest (appended cov s P) (appends c a t))
+          subst Passes (sym (turn-appended cov lim M P Ps s (admit-is cov lim (was-admitted a)) (T→false (cov P M) t))) (rest (appended cov s P) (appends c a t))
 
       go : {a : Admission} → Admits cov lim s P a → Rest → Passes (through cov lim M (P ∷ Ps) s)
-      go (was-covered t) rest = subst Passes (sym (turn-dropped cov lim M P Ps s t)) (rest s (drops c t))
-      go (was-long u l) rest = subst Passes (sym (turn-refused cov lim M P Ps s (was-long u l))) (eight c u l)
-      go (was-full m l) rest = subst Passes (sym (turn-refused cov lim M P Ps s (was-full m l))) (nine c m l)
+      go (was-covered t) rest = subst Passes (sym (turn-dropped cov lim M P Ps s (admit-is cov lim (was-covered t)))) (rest s (drops c t))
+      go (was-long u l) rest = subst Passes (sym (turn-refused cov lim M P Ps s (admit-is cov lim (was-long u l)))) (eight c u l)
+      go (was-full m l) rest = subst Passes (sym (turn-refused cov lim M P Ps s (admit-is cov lim (was-full m l)))) (nine c m l)
+      go (was-admitted m) rest = added m (decide (cov P M)) rest
+
+  -- If it passes, the run comes to the state that it leaves.
+  pub through-reaches : (M : Question) (Ps : List Question) (s t : State) (n : ℕ)
+      → Reaches cov lim steps allowed Q (within M Ps s n) → through cov lim M Ps s ≡ passed t
+      → Reaches cov lim steps allowed Q (between t n)
+  through-reaches M [] s t n c e =
+      subst (λ (x : State). Comes (between x n)) (passed-injective (sym (through-none cov lim M s) ∙ e)) (finishes c)
+  through-reaches M (P ∷ Ps) s t n c e = go (admits cov lim s P) (λ x d h. through-reaches M Ps x t n d h)
+    where
+      Rest : Type 0
+      Rest = (x : State) → Comes (within M Ps x n) → through cov lim M Ps x ≡ passed t → Comes (between t n)
+
+      added : Admitted cov lim s P → T (cov P M) ⊎ T (not (cov P M)) → Rest → Comes (between t n)
+      added a (inl u) rest =
+          subst (λ (x : State). Comes (between x n))
+          (passed-injective
+          (sym (turn-stopped cov lim M P Ps s (admit-is cov lim (was-admitted a)) (T→true (cov P M) u)) ∙ e))
+          (stops c a u)
+      added a (inr u) rest =
+          rest (appended cov s P) (appends c a u)
+          (sym (turn-appended cov lim M P Ps s (admit-is cov lim (was-admitted a)) (T→false (cov P M) u)) ∙ e)
+
+      refuses : {w : Why} → admit cov lim s P ≡ stopped w → Comes (between t n)
+      refuses h = absurd (failed≢passed (sym (turn-refused cov lim M P Ps s h) ∙ e))
+
+      go : {a : Admission} → Admits cov lim s P a → Rest → Comes (between t n)
+      go (was-covered u) rest = rest s (drops c u) (sym (turn-dropped cov lim M P Ps s (admit-is cov lim (was-covered u))) ∙ e)
+      go (was-long u l) rest = refuses (admit-is cov lim (was-long u l))
+      go (was-full m l) rest = refuses (admit-is cov lim (was-full m l))
       go (was-admitted m) rest = added m (decide (cov P M)) rest
 
   explore-ends : (left n : ℕ) (s : State) → n + left ≡ allowed → Comes (between s n)
@@ -101,19 +139,19 @@ module _ (cov : Test) (lim : Limits) (steps : Question → List Question) (allow
       (ap (λ (k : ℕ). exploring cov lim steps k n s) one ∙ turn-explores cov lim steps n s e (allowed - suc n))
       ∙ rest-runs c
   rest-runs (drops {M} {P} {Ps} {s} {n} c t) =
-      sym (ap (on-pass n) (turn-dropped cov lim M P Ps s t)) ∙ rest-runs c
+      sym (ap (on-pass n) (turn-dropped cov lim M P Ps s (admit-is cov lim (was-covered t)))) ∙ rest-runs c
   rest-runs (appends {M} {P} {Ps} {s} {n} c a t) =
-      sym (ap (on-pass n) (turn-appended cov lim M P Ps s a t)) ∙ rest-runs c
+      sym (ap (on-pass n) (turn-appended cov lim M P Ps s (admit-is cov lim (was-admitted a)) (T→false (cov P M) t))) ∙ rest-runs c
   rest-runs (stops {M} {P} {Ps} {s} {n} c a t) =
-      sym (ap (on-pass n) (turn-stopped cov lim M P Ps s a t)) ∙ rest-runs c
+      sym (ap (on-pass n) (turn-stopped cov lim M P Ps s (admit-is cov lim (was-admitted a)) (T→true (cov P M) t))) ∙ rest-runs c
   rest-runs (finishes {M} {s} {n} c) = sym (ap (on-pass n) (through-none cov lim M s)) ∙ rest-runs c
 
   pub ends-only : {o : Outcome} → Ends cov lim steps allowed Q o → runBy cov lim steps allowed Q ≡ o
   ends-only (completes {s} {n} c e) = sym (rest-runs c) ∙ turn-complete cov lim steps n s (allowed - n) e
   ends-only (eight {M} {P} {Ps} {s} {n} c u l) =
-      sym (rest-runs c) ∙ ap (on-pass n) (turn-refused cov lim M P Ps s (was-long u l))
+      sym (rest-runs c) ∙ ap (on-pass n) (turn-refused cov lim M P Ps s (admit-is cov lim (was-long u l)))
   ends-only (nine {M} {P} {Ps} {s} {n} c m l) =
-      sym (rest-runs c) ∙ ap (on-pass n) (turn-refused cov lim M P Ps s (was-full m l))
+      sym (rest-runs c) ∙ ap (on-pass n) (turn-refused cov lim M P Ps s (admit-is cov lim (was-full m l)))
   ends-only (ten {M} {s} c e) =
       let none-more : allowed - allowed ≡ 0 = omega arith in
       sym (rest-runs c)

@@ -45,7 +45,7 @@ module _ (W : List ℕ) (i : ℕ) where
   atoms-from j (suc n) =
       ap₂ _∷_ (atom-from j) (atoms-from (j + 5) n ∙ ap (λ (k : ℕ). atomsAt desk W k n) (omega arith))
 
-  count-from : getD (drop i W) 0 0 ≡ byte W i
+  pub count-from : getD (drop i W) 0 0 ≡ byte W i
   count-from = getD-drop i W 0 0 ∙ ap (λ (k : ℕ). getD W k 0) (omega arith)
 
   pub question-from : questionOf desk (drop i W) ≡ atomsAt desk W (i + 1) (byte W i)

@@ -25,6 +25,13 @@ pub mod Holding
 pub mod Pasting
 pub mod Finding
 pub mod Stand
+pub mod Removal
+pub mod Array
+pub mod Fates
+pub mod Among
+pub mod Coming
+pub mod Onward
+pub mod Running
 -- refuses exactly; what follows from the contract
 pub mod Refused
 pub mod Returns

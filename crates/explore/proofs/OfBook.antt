@@ -10,21 +10,24 @@ use Rattle.cover.specs.Term.{Question}
 use Rattle.cover.specs.Covers.{Covers}
 use Rattle.cover.specs.Search.{covers}
 use Rattle.cover.specs.Form.{form}
-use Rattle.cover.specs.Record.{desk, Fits}
+use Rattle.cover.specs.Record.{desk, questionOf as deskQuestion, heldIn, recordBytes, atomBytes, Fits, Sound}
 use Rattle.cover.proofs.Preorder.{covers-refl, covers-trans}
 use Rattle.cover.proofs.Decides.{covers-decides}
 use Rattle.cover.proofs.Form.{form-equivalent}
 use Rattle.cover.proofs.Same.{form-form}
+use Rattle.cover.proofs.Padded.{held-sound}
 use Rattle.book.specs.Rule.{Rule}
 use Rattle.book.specs.Book.{bookOf, layoutOf}
-use Rattle.book.specs.Verdict.{Sound}
+use Rattle.book.specs.Verdict.{Sound as SoundBook}
 use Rattle.book.proofs.Sound.{sound-header}
 use Rattle.unify.specs.Step.{Below, rewritings}
+use Rattle.unify.specs.Held.{inBook, QuestionIn}
 use Rattle.unify.proofs.Collected.{gather-in, gather-out}
 use Rattle.explore.specs.Run.{limits, State, complete, apart, allRewritings, runBy, run}
 use Rattle.explore.specs.Steps.{within, Reaches}
 use Rattle.explore.specs.Chain.{SomeHolds, Derives, Reached, first, next}
 use Rattle.explore.proofs.FromCover.{Narrower, wider-fits}
+use Rattle.explore.proofs.Pasting.{record-sound, record-question}
 use Rattle.explore.proofs.Small.{roomFor, fits-below, form-fits, rewriting-formed, rewriting-short}
 use Rattle.explore.proofs.Small.{rewriting-fits}
 use Rattle.explore.proofs.FromBook.{rules-fit, question-some, question-few, question-fits}
@@ -51,7 +54,7 @@ module _ (B : List ℕ) where
     pub formed : form M ≡ M
     pub reached : Reached apart (bookOf B .rules) (bookOf B .question) M
 
-  module _ (s : Sound B) where
+  module _ (s : SoundBook B) where
     pub first-member : Member (form questionOf)
     first-member =
         record {
@@ -130,10 +133,50 @@ module _ (B : List ℕ) where
     pub desk-fits : {M : Question} → Fits (layoutOf B) M → Fits desk M
     desk-fits f = wider-fits (narrower 8 (omega arith)) f
 
-    pub rewriting-desk : (M : Question) → Member M → (P : Question) → P ∈ allRewritings rulesOf M → Fits desk P
+    pub rewriting-desk : (M : Question) → Fits (layoutOf B) M → (P : Question) → P ∈ allRewritings rulesOf M → Fits desk P
     rewriting-desk M m P x =
         let y = gather-out (λ r. rewritings apart r M) rulesOf x in
         let f = rules-fit B s (y .0) (y .1) in
-        let h = rewriting-short (layoutOf B) {cap = 8} (m .fits) f (y .2) in
-        wider-fits (narrower 11 (omega arith))
-        (rewriting-fits (layoutOf B) {cap = 8} (m .fits) f (y .2) 11 (omega arith))
+        let h = rewriting-short (layoutOf B) {cap = 8} m f (y .2) in
+        wider-fits (narrower 11 (omega arith)) (rewriting-fits (layoutOf B) {cap = 8} m f (y .2) 11 (omega arith))
+
+    -- so the record of a rewriting of a member can be handed to covering
+    module _ (M : Question) (m : Fits (layoutOf B) M) (P : Question) (x : P ∈ allRewritings rulesOf M) where
+      pub rewriting-sound : Sound desk (heldIn desk 56 P)
+      rewriting-sound = record-sound P (rewriting-desk M m P x)
+
+      pub rewriting-question : deskQuestion desk (heldIn desk 56 P) ≡ P
+      rewriting-question = record-question P (rewriting-desk M m P x)
+
+    -- and the record of a member to covering and to the lister
+    module _ (M : Question) (m : Fits (layoutOf B) M) where
+      pub member-question : deskQuestion desk (heldIn desk 56 M) ≡ M
+      member-question = record-question M (desk-fits m)
+
+      pub member-sound : Sound desk (heldIn desk 56 M)
+      member-sound = record-sound M (desk-fits m)
+
+      listed-fits : Fits inBook M
+      listed-fits =
+          wider-fits
+          (record {
+            atoms = omega arith;
+            relations = sound-header B s .few-relations;
+            places = omega arith;
+            variables = omega arith;
+            constants = sound-header B s .few-constants;
+          })
+          m
+
+      listed-sound : Sound inBook (heldIn desk 56 M)
+      unfolding heldIn recordBytes atomBytes
+      listed-sound =
+          held-sound inBook 56 M (record { variables = omega arith; constants = omega arith }) listed-fits
+          (omega (arith, listed-fits .most))
+
+      pub member-in : QuestionIn (heldIn desk 56 M)
+      member-in =
+          record {
+            atoms = record { fits = listed-sound .fits; sound = listed-sound .atoms };
+            few = listed-sound .most;
+          }

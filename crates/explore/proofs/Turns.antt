@@ -1,49 +1,42 @@
 -- One turn of each loop: what the rest of an exploration and of the run is, by what the turn finds. These are the
 -- laws for code that holds a state and goes on. Assumes nothing.
 use mathlib.Core.Path.{_≡_, refl, _∙_, ap}
-use mathlib.Core.Bool.{cond, not}
+use mathlib.Core.Bool.{Bool, true, false, cond}
 use mathlib.Core.List.{List, _∷_}
 use mathlib.Core.Option.{Option, none, some}
 use Prim.Native.Nat.{ℕ, zero, suc}
-use lib.Dec.{T}
 use Rattle.cover.specs.Term.{Question}
-use Rattle.cover.proofs.Lists.{cond-yes, cond-no}
-use Rattle.explore.specs.Run.{Test, Limits, State, Why, none-left, Admission, stopped, Pass, passed, failed}
+use Rattle.explore.specs.Run.{Test, Limits, State, Why, none-left, Admission, dropped, admitted, stopped}
+use Rattle.explore.specs.Run.{Pass, passed, failed}
 use Rattle.explore.specs.Run.{Outcome, complete, refused, onAdmission, onPass, onOption, oldest, takenUp}
-use Rattle.explore.specs.Run.{covered, appended, through, exploring}
-use Rattle.explore.specs.Steps.{Admitted}
-use Rattle.explore.proofs.Admits.{Admits, was-covered, was-admitted, admit-is, through-next}
+use Rattle.explore.specs.Run.{admit, through, exploring}
+use Rattle.explore.proofs.Admits.{through-next}
 
--- one rewriting P of the member M, and Ps after it
+-- one rewriting P of the member M, and Ps after it: by what becomes of it
 module _ (cov : Test) (lim : Limits) (M P : Question) (Ps : List Question) (s : State) where
   after : Admission → Pass
   after a = onAdmission a (through cov lim M Ps s) (λ t. cond (cov P M) (passed t) (through cov lim M Ps t)) failed
 
-  turn : {a : Admission} → Admits cov lim s P a → through cov lim M (P ∷ Ps) s ≡ after a
+  turn : {a : Admission} → admit cov lim s P ≡ a → through cov lim M (P ∷ Ps) s ≡ after a
   unfolding after
-  turn h = through-next cov lim M P Ps s ∙ ap after (admit-is cov lim h)
+  turn e = through-next cov lim M P Ps s ∙ ap after e
 
-  pub turn-dropped : T (covered cov P (s .members)) → through cov lim M (P ∷ Ps) s ≡ through cov lim M Ps s
+  pub turn-dropped : admit cov lim s P ≡ dropped → through cov lim M (P ∷ Ps) s ≡ through cov lim M Ps s
   unfolding after
-  turn-dropped t = turn (was-covered t)
+  turn-dropped e = turn e
 
-  pub turn-refused : {w : Why} → Admits cov lim s P (stopped w) → through cov lim M (P ∷ Ps) s ≡ failed w
+  pub turn-refused : {w : Why} → admit cov lim s P ≡ stopped w → through cov lim M (P ∷ Ps) s ≡ failed w
   unfolding after
-  turn-refused h = turn h
+  turn-refused e = turn e
 
-  pub turn-appended : Admitted cov lim s P → T (not (cov P M))
-      → through cov lim M (P ∷ Ps) s ≡ through cov lim M Ps (appended cov s P)
-  unfolding after
-  turn-appended h t =
-      turn (was-admitted h)
-      ∙ cond-no (cov P M) (passed (appended cov s P)) (through cov lim M Ps (appended cov s P)) t
+  module _ {t : State} (e : admit cov lim s P ≡ admitted t) where
+    pub turn-appended : cov P M ≡ false → through cov lim M (P ∷ Ps) s ≡ through cov lim M Ps t
+    unfolding after
+    turn-appended f = turn e ∙ ap (λ (b : Bool). cond b (passed t) (through cov lim M Ps t)) f
 
-  pub turn-stopped : Admitted cov lim s P → T (cov P M)
-      → through cov lim M (P ∷ Ps) s ≡ passed (appended cov s P)
-  unfolding after
-  turn-stopped h t =
-      turn (was-admitted h)
-      ∙ cond-yes (cov P M) (passed (appended cov s P)) (through cov lim M Ps (appended cov s P)) t
+    pub turn-stopped : cov P M ≡ true → through cov lim M (P ∷ Ps) s ≡ passed t
+    unfolding after
+    turn-stopped f = turn e ∙ ap (λ (b : Bool). cond b (passed t) (through cov lim M Ps t)) f
 
 -- between explorations: so many left, n taken up
 module _ (cov : Test) (lim : Limits) (steps : Question → List Question) (n : ℕ) (s : State) where

@@ -3,12 +3,27 @@
 use mathlib.Core.Path.{_≡_}
 use mathlib.Core.Bool.{cond}
 use mathlib.Core.List.{List, [], _∷_, _++_}
-use Prim.Native.Nat.{ℕ, zero, suc}
-use lib.ListN.{length, drop}
+use mathlib.Core.Option.{some}
+use Prim.Native.Nat.{ℕ, zero, suc, _+_, _≤_}
+use lib.ListN.{length, take, drop}
+use Rattle.cover.specs.Lists.{_∈_}
 use Rattle.cover.specs.Term.{Question}
-use Rattle.cover.specs.Record.{desk, Sound}
-use Rattle.explore.specs.Run.{State, Test}
-use Rattle.explore.specs.Union.{membersBytes, firstAt, total, outputSize, memberEnd}
+use Rattle.cover.specs.Search.{covers}
+use Rattle.cover.specs.Record.{desk, questionOf, heldIn, Fits, Sound}
+use Rattle.book.specs.Rule.{Rule}
+use Rattle.book.specs.Book.{layoutOf}
+use Rattle.explore.specs.declared.Extent.{Extent}
+use Rattle.explore.specs.declared.Moved.{Moved}
+use Rattle.explore.specs.declared.Fate.{Fate}
+use Rattle.explore.specs.declared.Fate.the-variants.{Dropped, Appended, Refused}
+use Rattle.explore.specs.declared.Explored.{Explored}
+use Rattle.explore.specs.declared.Explored.the-variants.{Passed, Refused as NotExplored}
+use Rattle.explore.specs.declared.Ran.{Ran}
+use Rattle.explore.specs.declared.Ran.the-variants.{Complete, Refused as NotRun}
+use Rattle.explore.specs.Run.{State, Test, limits, Why, number, dropped, admitted, stopped, passed, failed}
+use Rattle.explore.specs.Run.{Outcome, complete, refused}
+use Rattle.explore.specs.Run.{oldest, without, admit, through, allRewritings}
+use Rattle.explore.specs.Union.{membersBytes, membersFrom, firstAt, total, outputSize, memberEnd}
 
 -- "One working array of 2,632 bytes": the members' records stand one after the other from 8 on and end at `len`;
 -- `count` members, the first `front` of them explored
@@ -24,7 +39,67 @@ unfoldable pub Standing : List ℕ → ℕ → ℕ → Type 0
 Standing W i zero = Unit {0}
 Standing W i (suc n) = Sound desk (drop i W) × Standing W (memberEnd W i) n
 
+-- the state that is read from a working array filled so far
+abbrev pub stateOf : List ℕ → Extent → State
+stateOf W e = record { members = membersFrom W firstAt (e .count); explored = e .front }
+
+-- A working array in order: it holds the state that is read from it, at most 64 members of 1 to 8 atoms. What stands
+-- in it after the last member does not count.
+pub record Working (W : List ℕ) (e : Extent) : Type 0 where
+  pub held : Held W (e .len) (e .count) (e .front) (stateOf W e)
+  pub few : e .count ≤ 64
+  pub ahead : e .front ≤ e .count
+  pub fits : (M : Question) → M ∈ membersFrom W firstAt (e .count) → Fits desk M
+  pub short : (M : Question) → M ∈ membersFrom W firstAt (e .count) → length M ≤ 8
+
 -- how many members stand before the first one that covers P: all of them where none does
 unfoldable pub beforeCovering : Test → Question → List Question → ℕ
 beforeCovering cov P [] = 0
 beforeCovering cov P (M ∷ U) = let r = suc (beforeCovering cov P U) in cond (cov M P) 0 r
+
+-- Of the n members that stand in W from `from` on, those that P does not cover stand in X from `to` on; what is before
+-- `to` and after the last of the n is as it was.
+pub record Kept (W : List ℕ) (from to n : ℕ) (P : Question) (X : List ℕ) (r : Moved) : Type 0 where
+  pub size : length X ≡ length W
+  pub lower : r .to ≤ r .from
+  pub bytes : take (r .to) X ≡ take to W ++ membersBytes (without covers P (membersFrom W from n))
+  pub ends : r .to ≡ to + length (membersBytes (without covers P (membersFrom W from n)))
+  pub count : r .kept ≡ length (without covers P (membersFrom W from n))
+  pub passed : r .from ≡ from + length (membersBytes (membersFrom W from n))
+  pub after : drop (r .from) X ≡ drop (r .from) W
+
+-- "remove every member that it covers": the members that stay, and how many of them are explored
+abbrev pub rest : State → Question → State
+rest s P =
+    record {
+      members = without covers P (s .members);
+      explored = length (without covers P (take (s .explored) (s .members)));
+    }
+
+-- What becomes of the rewriting P, and of the working array W: X is the array afterwards. Where the run is refused the
+-- array does not count any more.
+abbrev pub FateIs : List ℕ → Extent → Question → List ℕ → Fate → Type 0
+FateIs W e P X Dropped = (admit covers limits (stateOf W e) P ≡ dropped) × (X ≡ W)
+FateIs W e P X (Appended f) = (admit covers limits (stateOf W e) P ≡ admitted (stateOf X f)) × Working X f
+FateIs W e P X (Refused n) = (w : Why) × (admit covers limits (stateOf W e) P ≡ stopped w) × (n ≡ number w)
+
+-- "the oldest unexplored member", as a record of 56 bytes
+abbrev pub OldestIs : List ℕ → Extent → List ℕ → Type 0
+OldestIs W e R = (M : Question) × (oldest (stateOf W e) ≡ some M) × (R ≡ heldIn desk 56 M)
+
+-- a member as a record of 56 bytes, the rest 255: it keeps to the book's relations, places and constants
+pub record MemberIn (B R : List ℕ) : Type 0 where
+  pub holds : R ≡ heldIn desk 56 (questionOf desk R)
+  pub fits : Fits (layoutOf B) (questionOf desk R)
+
+-- what becomes of the exploration of the member M, by these rules, and of the working array W
+abbrev pub ExploredIs : List Rule → Question → List ℕ → Extent → List ℕ → Explored → Type 0
+ExploredIs rules M W e X (Passed f) =
+    (through covers limits M (allRewritings rules M) (stateOf W e) ≡ passed (stateOf X f)) × Working X f
+ExploredIs rules M W e X (NotExplored n) =
+    (w : Why) × (through covers limits M (allRewritings rules M) (stateOf W e) ≡ failed w) × (n ≡ number w)
+
+-- what becomes of the run, whose outcome is o; complete, the working array X holds the members
+abbrev pub RanIs : Outcome → List ℕ → Ran → Type 0
+RanIs o X (Complete f n) = (o ≡ complete (stateOf X f .members) n) × Working X f × (n ≤ 1000)
+RanIs o X (NotRun k p) = (w : Why) × (o ≡ refused w p) × (k ≡ number w)

@@ -5,5 +5,6 @@ pub mod Union
 pub mod Answer
 pub mod Refusals
 pub mod Chain
+pub mod Taking
 pub mod Held
 pub mod Examples

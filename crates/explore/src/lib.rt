@@ -1,4 +1,64 @@
 // The exploration: one book in, the whole union or a numbered refusal out. Its definitions are in specs/, the laws
 // and the three demands in proofs/.
+mod admitting;
 mod covering;
+mod exploring;
+mod removing;
+mod taking_up;
+mod whole_run;
 mod working;
+
+pub use whole_run::run;
+
+// How far the working array is filled: where its members end, how many they are, and how many of them, from the first
+// on, are explored.
+pub struct Extent {
+    pub len: usize,
+    pub count: usize,
+    pub front: usize,
+}
+
+// Members passed in the removal: where the next one stands, where the next kept one goes, and how many were kept.
+pub struct Moved {
+    pub from: usize,
+    pub to: usize,
+    pub kept: usize,
+}
+
+// What becomes of one rewriting: a member covers it; it is appended, and the array is filled so far; or the run is
+// refused with that number.
+pub enum Fate {
+    Dropped,
+    Appended(Extent),
+    Refused(u8),
+}
+
+// The next rewriting: whether there is one, the numbers of its rule and of its choice, and its record at the front of
+// 56 bytes, the rest 255.
+pub struct Taken {
+    pub found: bool,
+    pub rule: usize,
+    pub choice: usize,
+    pub rewriting: [u8; 56],
+}
+
+// What becomes of the exploration of one member: it is through, and the array is filled so far; or the run is refused
+// with that number.
+pub enum Explored {
+    Passed(Extent),
+    Refused(u8),
+}
+
+// What becomes of the run: it is complete, the array is filled so far and so many questions were explored; or it is
+// refused with that number, and so many were taken up.
+pub enum Ran {
+    Complete(Extent, usize),
+    Refused(u8, usize),
+}
+
+// "The answer is a number and a place. 0 means complete, and the place is the total length written. Every other number
+// means that no output byte changed."
+pub struct Answer {
+    pub number: u8,
+    pub place: usize,
+}

@@ -1,8 +1,8 @@
 // The working array: the union as it will be written, its members' records one after the other. A record is put after
-// the last one, one is removed by moving the others down over it, and on completion the array is copied out.
+// the last one, those that stay are moved down over those that are removed, and on completion the array is copied out.
 ghost use mathlib.Core.Path.{_≡_};
 ghost use mathlib.Core.List.{_++_};
-ghost use Prim.Native.Nat.{_+_, _*_, _-_, _≤_, _<_};
+ghost use Prim.Native.Nat.{_+_, _*_, _≤_, _<_};
 ghost use lib.ListN.{length, getD, take, drop};
 ghost use Rattle.cover.specs.Record.{desk, questionOf, recordBytes, Sound};
 ghost use Rattle.explore.specs.Union.{wordBytes};
@@ -36,23 +36,18 @@ pub fn append(work: &mut [u8], len: usize, member: &[u8]) -> usize
     len + width
 }
 
-// Removes the width bytes at `at`: the bytes after them, up to len, are moved down over them. Answers where they end.
-// What is left behind them stays as it was.
-pub fn remove(work: &mut [u8], at: usize, width: usize, len: usize) -> usize
-    requires { ⌜ (at + width ≤ len) × (len ≤ length (now work)) ⌝ }
-    ensures { λ r. ⌜ (r + width ≡ len)
-        × (now (work .exit)
-        ≡ take at (now (work .entry))
-        ++ (take (len - (at + width)) (drop (at + width) (now (work .entry))) ++ drop r (now (work .entry)))) ⌝ }
+// Moves the width bytes at `from` down to `to`. Each is read before it is written over, since it goes no higher.
+pub fn move_down(work: &mut [u8], from: usize, to: usize, width: usize)
+    requires { ⌜ (to ≤ from) × (from + width ≤ length (now work)) ⌝ }
+    ensures { λ r. ⌜ now (work .exit)
+        ≡ take to (now (work .entry))
+        ++ (take width (drop from (now (work .entry))) ++ drop (to + width) (now (work .entry))) ⌝ }
 {
-    let from = at + width;
-    let count = len - from;
     let mut i = 0;
-    while i < count {
-        work[at + i] = work[from + i];
+    while i < width {
+        work[to + i] = work[from + i];
         i += 1;
     }
-    at + count
 }
 
 // Puts the number n at `at` as a 16-bit word, its low byte first.

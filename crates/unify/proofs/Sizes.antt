@@ -14,6 +14,7 @@ use lib.ListN.{length, length-append, length-map}
 use Rattle.cover.specs.Form.{dedup, firsts, numbering, form}
 use Rattle.cover.specs.Lists.{_∈_, keep, numbers}
 use Rattle.cover.specs.Term.{Term, Atom, Question, terms, Sub, on-term, on-atom, on-question, eqAtom, var, con}
+use Rattle.cover.proofs.Fitting.{keep-few, dedup-few}
 use Rattle.cover.proofs.Form.{dedup-out, firsts-in, form-numbered}
 use Rattle.cover.proofs.Same.{form-form}
 use Rattle.cover.proofs.Terms.{var≢con, terms-in, terms-out, terms-append, terms-on}
@@ -27,27 +28,11 @@ use Rattle.unify.proofs.Moved.{moved-term}
 use Rattle.unify.proofs.Numbers.{choice-length, numbers-length, numbers-below}
 
 -- forms: no longer than the question, and with fewer variables than places
-keep-length : {A : Type 0} (p : A → Bool) (l : List A) → length (keep p l) ≤ length l
-keep-length p [] = omega arith
-keep-length p (x ∷ xs) = go (p x) (keep-length p xs)
-  where
-    go : (b : Bool) → length (keep p xs) ≤ length xs → length (cond b (x ∷ keep p xs) (keep p xs)) ≤ length (x ∷ xs)
-    go true h = omega arith
-    go false h = omega arith
-
-dedup-length : (A : Question) → length (dedup A) ≤ length A
-dedup-length [] = omega arith
-dedup-length (a ∷ A) =
-    let one : length (keep (λ b. not (eqAtom a b)) (dedup A)) ≤ length (dedup A) =
-    keep-length (λ b. not (eqAtom a b)) (dedup A) in
-    let two : length (dedup A) ≤ length A = dedup-length A in
-    omega arith
-
 pub form-length : (A : Question) → length (form A) ≤ length A
 unfolding form
 form-length A =
     subst (λ (n : ℕ). n ≤ length A)
-    (sym (length-map (dedup A) (on-atom (numbering (dedup A))))) (dedup-length A)
+    (sym (length-map (dedup A) (on-atom (numbering (dedup A))))) (dedup-few A)
 
 pub form-atom : (A : Question) (a : Atom) → a ∈ form A → (b : Atom) × (b ∈ A) × (on-atom (numbering (dedup A)) b ≡ a)
 unfolding form
@@ -58,7 +43,7 @@ firsts-length : (ts : List Term) → length (firsts ts) ≤ length ts
 firsts-length [] = omega arith
 firsts-length (var n ∷ ts) =
     let one : length (keep (λ m. not (eqb n m)) (firsts ts)) ≤ length (firsts ts) =
-    keep-length (λ m. not (eqb n m)) (firsts ts) in
+    keep-few (λ m. not (eqb n m)) (firsts ts) in
     let two : length (firsts ts) ≤ length ts = firsts-length ts in
     omega arith
 firsts-length (con c ∷ ts) = let two : length (firsts ts) ≤ length ts = firsts-length ts in omega arith

@@ -1,0 +1,167 @@
+-- Laws of taking the next rewriting (`specs/Taking`), rule by rule, and of finding the oldest unexplored member, member
+-- by member. Assumes nothing.
+use mathlib.Core.Path.{_≡_, refl, sym, _∙_, ap, ap₂, subst}
+use mathlib.Core.Bool.{true, false}
+use mathlib.Core.List.{List, [], _∷_}
+use mathlib.Core.Option.{Option, none, some}
+use Prim.Native.Nat.{ℕ, zero, suc, _+_, _*_, _-_, _≤_, _<_}
+use native.Mathlib.Omega.{arith}
+use native.Mathlib.Nat.{sub-zero}
+use lib.ListN.{length, getD, drop, replicate}
+use lib.Seq.{drop-drop}
+use Rattle.cover.specs.Lists.{head}
+use Rattle.cover.specs.Term.{Question}
+use Rattle.cover.specs.Record.{desk, questionOf, heldIn, Sound}
+use Rattle.book.specs.Rule.{Rule}
+use Rattle.book.specs.Word.{byte}
+use Rattle.book.specs.declared.Header.{Header}
+use Rattle.book.specs.declared.Parts.{Parts}
+use Rattle.book.specs.Header.{rules, HeaderRead}
+use Rattle.book.specs.Parts.{StartsAt, partsAt}
+use Rattle.book.specs.Verdict.{Sound as SoundBook}
+use Rattle.book.proofs.Sound.{sound-header, sound-rule, sound-question}
+use Rattle.book.specs.Book.{ruleEnd, ruleAt, rulesFrom, rulesStart, after, ruleStart, bookOf}
+use Rattle.book.proofs.Reading.{book-rules, rules-none, rules-more}
+use Rattle.unify.specs.declared.Found.{Found}
+use Rattle.unify.specs.Held.{ruleOf, answered, RuleIn, QuestionIn}
+use Rattle.unify.proofs.FromBook.{rule-in, rule-is, found-within}
+use Rattle.unify.specs.Choice.{mostChoices}
+use Rattle.unify.specs.Step.{next}
+use Rattle.explore.specs.declared.Extent.{Extent}
+use Rattle.explore.specs.declared.Taken.{Taken}
+use Rattle.explore.specs.Run.{State, apart, oldest}
+use Rattle.explore.specs.Taking.{Numbered, orLater, nextAmong, taken}
+use Rattle.explore.specs.Union.{membersFrom, firstAt}
+use Rattle.explore.specs.Held.{Standing, stateOf, Working}
+use Rattle.explore.proofs.Finding.{Here, stands}
+use Rattle.explore.proofs.Removal.{members-more}
+
+pub true≢false : true ≡ false → ⊥
+true≢false e = let z : _≡_ {A = ℕ} 0 1 = cc in absurd (omega arith)
+
+module _ (B : List ℕ) where
+  rules-after : (s n k : ℕ) → drop k (rulesFrom B s n) ≡ rulesFrom B (after B s k) (n - k)
+  unfolding rulesFrom after
+  rules-after s n zero = ap (rulesFrom B s) (sym (sub-zero n))
+  rules-after s zero (suc k) = ap (rulesFrom B (after B (ruleEnd B s) k)) (none-left (suc k))
+    where
+      none-left : (k : ℕ) → 0 ≡ 0 - k
+      none-left k = omega arith
+  rules-after s (suc n) (suc k) =
+      rules-after (ruleEnd B s) n k ∙ ap (rulesFrom B (after B (ruleEnd B s) k)) (fewer n k)
+    where
+      fewer : (n k : ℕ) → n - k ≡ suc n - suc k
+      fewer n k = omega arith
+
+  -- the rules from the k-th on
+  pub rules-left : (k : ℕ) → drop k (bookOf B .rules) ≡ rulesFrom B (ruleStart B k) (rules B - k)
+  rules-left k = ap (drop k) (book-rules B) ∙ rules-after (rulesStart B) (rules B) k
+
+  module _ (M : Question) (k n : ℕ) where
+    pub among-none : rules B ≤ k → nextAmong M k n (rulesFrom B (ruleStart B k) (rules B - k)) ≡ none
+    unfolding nextAmong
+    among-none h = ap (nextAmong M k n) (rules-none B (ruleStart B k) (rules B) k h)
+
+    among-more : k < rules B → nextAmong M k n (rulesFrom B (ruleStart B k) (rules B - k))
+        ≡ orLater k (next apart (ruleAt B (ruleStart B k)) M n)
+        (nextAmong M (suc k) 0 (rulesFrom B (ruleStart B (k + 1)) (rules B - (k + 1))))
+    unfolding nextAmong
+    among-more h = ap (nextAmong M k n) (rules-more B (rules B) k h)
+
+    module _ (h : k < rules B) (f : Found) (e : f ≡ answered (next apart (ruleAt B (ruleStart B k)) M n)) where
+      pub among-found : f .found ≡ true
+          → record { found = true; rule = k; choice = f .choice; rewriting = f .rewriting }
+          ≡ taken (nextAmong M k n (rulesFrom B (ruleStart B k) (rules B - k)))
+      among-found t = go (next apart (ruleAt B (ruleStart B k)) M n) e ∙ ap taken (sym (among-more h))
+        where
+          later : Option Numbered
+          later = nextAmong M (suc k) 0 (rulesFrom B (ruleStart B (k + 1)) (rules B - (k + 1)))
+
+          go : (o : Option (ℕ × Question)) → f ≡ answered o
+              → record { found = true; rule = k; choice = f .choice; rewriting = f .rewriting } ≡ taken (orLater k o later)
+          go none x = absurd (true≢false (sym t ∙ ap (λ (y : Found). y .found) x))
+          go (some y) x =
+              ap (λ (g : Found). record { found = true; rule = k; choice = g .choice; rewriting = g .rewriting }) x
+
+      pub among-later : f .found ≡ false
+          → nextAmong M k n (rulesFrom B (ruleStart B k) (rules B - k))
+          ≡ nextAmong M (k + 1) 0 (rulesFrom B (ruleStart B (k + 1)) (rules B - (k + 1)))
+      among-later t =
+          among-more h
+          ∙ go (next apart (ruleAt B (ruleStart B k)) M n) e
+          ∙ ap (λ (i : ℕ). nextAmong M i 0 (rulesFrom B (ruleStart B (k + 1)) (rules B - (k + 1)))) (one-more k)
+        where
+          one-more : (k : ℕ) → suc k ≡ k + 1
+          one-more k = omega arith
+
+          later : Option Numbered
+          later = nextAmong M (suc k) 0 (rulesFrom B (ruleStart B (k + 1)) (rules B - (k + 1)))
+
+          go : (o : Option (ℕ × Question)) → f ≡ answered o → orLater k o later ≡ later
+          go none x = refl
+          go (some y) x = absurd (true≢false (sym (ap (λ (g : Found). g .found) x) ∙ t))
+
+-- the members from the i-th on stand from `at` on
+pub record From (W : List ℕ) (count at i : ℕ) : Type 0 where
+  pub standing : Standing W at (count - i)
+  pub members : drop i (membersFrom W firstAt count) ≡ membersFrom W at (count - i)
+
+module _ (W : List ℕ) (count : ℕ) where
+  pub from-first : Standing W firstAt count → From W count firstAt 0
+  from-first s = record { standing = rw sub-zero s; members = rw sub-zero }
+
+  module _ {at i : ℕ} (f : From W count at i) (h : i < count) where
+    pub from-here : Here W at (count - (i + 1))
+    from-here = stands W at i count h (f .standing)
+
+    pub from-next : From W count (at + (1 + byte W at * 5)) (i + 1)
+    from-next =
+        record {
+          standing = from-here .rest;
+          members =
+              sym (drop-drop 1 i (membersFrom W firstAt count))
+              ∙ ap (drop 1) (f .members ∙ members-more W at count i h);
+        }
+
+    pub from-head : head (drop i (membersFrom W firstAt count)) ≡ some (questionOf desk (drop at W))
+    from-head = ap head (f .members ∙ members-more W at count i h)
+
+-- what the loop over rules needs of a sound book and of what was read of it
+module _ (B : List ℕ) (s : SoundBook B) where
+  pub rules-read : (h : Header) → HeaderRead B h → h .rules ≡ rules B
+  rules-read h r = ap (λ (x : Header). x .rules) (r .is)
+
+  pub rules-few : rules B ≤ 32
+  rules-few = sound-header B s .few-rules
+
+  pub start-within : (k : ℕ) → k < rules B → ruleStart B k + 2 ≤ length B
+  start-within k l = let r = sound-rule B s k l in let q = sound-question B s in omega (arith, r .ends, q .ends)
+
+  -- the rule at hand, where `starts` says
+  module _ (starts : List ℕ) (a : StartsAt B starts) (k : ℕ) (l : k < rules B) where
+    start-is : getD starts k 0 ≡ ruleStart B k
+    start-is = a .starts k (omega arith)
+
+    pub start-fits : getD starts k 0 + 2 ≤ length B
+    start-fits = omega (arith, start-is, start-within k l)
+
+    pub start-inside : k < length starts
+    start-inside = omega (arith, a .size, rules-few)
+
+    module _ (p : Parts) (e : p ≡ partsAt B (getD starts k 0)) where
+      parts-are : p ≡ partsAt B (ruleStart B k)
+      parts-are = e ∙ ap (partsAt B) start-is
+
+      pub parts-in : RuleIn B p
+      parts-in = subst (RuleIn B) (sym parts-are) (rule-in B s k l)
+
+      pub found-is : (M : Question) (n : ℕ) (f : Found) → f ≡ answered (next 32 (ruleOf B p) M n)
+          → f ≡ answered (next apart (ruleAt B (ruleStart B k)) M n)
+      found-is M n f x =
+          x
+          ∙ ap (λ (q : Parts). answered (next 32 (ruleOf B q) M n)) parts-are
+          ∙ ap (λ (r : Rule). answered (next 32 r M n)) (rule-is B (ruleStart B k))
+
+      pub few-choices : (Q : List ℕ) → QuestionIn Q → (n : ℕ) (f : Found)
+          → f ≡ answered (next 32 (ruleOf B p) (questionOf desk Q) n) → f .found ≡ true → f .choice < mostChoices
+      few-choices Q q n f x t = found-within Q B p q parts-in n f x t .1

@@ -1,0 +1,116 @@
+-- The exploration of one member, midway: what the loop of `explore` keeps, and its turns. Assumes nothing.
+use mathlib.Core.Path.{_≡_, refl, sym, _∙_, ap, ap₂, subst}
+use mathlib.Core.Bool.{Bool, true, false}
+use mathlib.Core.List.{List, [], _∷_, List·Memᴰ·head, List·Memᴰ·tail}
+use Prim.Native.Nat.{ℕ, suc, _+_, _*_, _≤_, _<_}
+use native.Mathlib.Omega.{arith}
+use lib.ListN.{length, drop}
+use Rattle.cover.specs.Lists.{_∈_}
+use Rattle.cover.specs.Term.{Question}
+use Rattle.cover.specs.Search.{covers}
+use Rattle.cover.specs.Record.{desk, questionOf, heldIn, Fits, Sound}
+use Rattle.cover.proofs.Fitting.{sound-fits}
+use Rattle.cover.proofs.Padded.{desk-apart, held-question, held-sound}
+use Rattle.book.specs.Rule.{Rule}
+use Rattle.book.specs.Book.{bookOf, layoutOf}
+use Rattle.book.specs.Verdict.{Sound as SoundBook}
+use Rattle.unify.specs.Step.{rewritings}
+use Rattle.unify.specs.Held.{inBook}
+use Rattle.unify.proofs.Collected.{gather-out}
+use Rattle.explore.specs.declared.Extent.{Extent}
+use Rattle.explore.specs.declared.Taken.{Taken}
+use Rattle.explore.specs.declared.Fate.{Fate}
+use Rattle.explore.specs.declared.Fate.the-variants.{Dropped, Appended, Refused}
+use Rattle.explore.specs.declared.Explored.{Explored}
+use Rattle.explore.specs.declared.Explored.the-variants.{Passed, Refused as NotExplored}
+use Rattle.explore.specs.Run.{limits, through, apart, allRewritings}
+use Rattle.explore.specs.Held.{stateOf, Working, FateIs, ExploredIs}
+use Rattle.explore.proofs.Admits.{through-none}
+use Rattle.explore.proofs.Turns.{turn-dropped, turn-refused, turn-appended, turn-stopped}
+use Rattle.explore.proofs.Coming.{coming, coming-all, Given}
+
+-- The exploration's outcome is that of the rewritings yet to come, from the state that the array X holds.
+pub record Onward (rules : List Rule) (M : Question) (W : List ℕ) (e : Extent) (X : List ℕ) (f : Extent) (k n : ℕ) : Type 0
+  where
+    pub working : Working X f
+    pub among : (P : Question) → P ∈ coming M n (drop k rules) → P ∈ allRewritings rules M
+    pub outcome : through covers limits M (allRewritings rules M) (stateOf W e)
+        ≡ through covers limits M (coming M n (drop k rules)) (stateOf X f)
+
+module _ (rules : List Rule) (M : Question) (W : List ℕ) (e : Extent) where
+  pub onward-first : Working W e → Onward rules M W e W e 0 0
+  onward-first w =
+      record {
+        working = w;
+        among = λ P m. subst (λ (l : List Question). P ∈ l) (coming-all M rules) m;
+        outcome = ap (λ (l : List Question). through covers limits M l (stateOf W e)) (sym (coming-all M rules));
+      }
+
+  -- by another name of how far the array is filled
+  pub onward-as : {X : List ℕ} {f d : Extent} {k n : ℕ} → d ≡ f → Onward rules M W e X f k n
+      → Onward rules M W e X d k n
+  onward-as {X} {k = k} {n = n} h o = subst (λ (x : Extent). Onward rules M W e X x k n) (sym h) o
+
+  module _ {X : List ℕ} {f : Extent} {k n : ℕ} (o : Onward rules M W e X f k n) where
+    -- none is left
+    pub onward-done : coming M n (drop k rules) ≡ [] → ExploredIs rules M W e X (Passed f)
+    onward-done h = (
+      o .outcome
+          ∙ ap (λ (l : List Question). through covers limits M l (stateOf X f)) h
+          ∙ through-none covers limits M (stateOf X f),
+      o .working,
+    )
+
+    -- the next one
+    module _ {t : Taken} (g : Given M k n rules t) where
+      abbrev P : Question
+      P = g .rewriting
+
+      abbrev Ps : List Question
+      Ps = coming M (t .choice + 1) (drop (t .rule) rules)
+
+      outcome-is : through covers limits M (allRewritings rules M) (stateOf W e)
+          ≡ through covers limits M (P ∷ Ps) (stateOf X f)
+      outcome-is = o .outcome ∙ ap (λ (l : List Question). through covers limits M l (stateOf X f)) (g .coming-is)
+
+      pub fewer : length (coming M (t .choice + 1) (drop (t .rule) rules)) < length (coming M n (drop k rules))
+      fewer = omega (arith, ap length (g .coming-is))
+
+      pub rewriting-in : g .rewriting ∈ allRewritings rules M
+      rewriting-in = o .among P (subst (λ (l : List Question). P ∈ l) (sym (g .coming-is)) (List·Memᴰ·head refl))
+
+      later-in : (N : Question) → N ∈ Ps → N ∈ allRewritings rules M
+      later-in N m =
+          o .among N (subst (λ (l : List Question). N ∈ l) (sym (g .coming-is)) (List·Memᴰ·tail m))
+
+      -- it was dropped
+      pub onward-dropped : (Y : List ℕ) → FateIs X f (g .rewriting) Y Dropped
+          → Onward rules M W e Y f (t .rule) (t .choice + 1)
+      onward-dropped Y h =
+          subst (λ (Z : List ℕ). Onward rules M W e Z f (t .rule) (t .choice + 1)) (sym (h .1))
+          (record {
+            working = o .working;
+            among = later-in;
+            outcome = outcome-is ∙ turn-dropped covers limits M P Ps (stateOf X f) (h .0);
+          })
+
+      pub onward-refused : (number : ℕ) → FateIs X f (g .rewriting) X (Refused number)
+          → ExploredIs rules M W e X (NotExplored number)
+      onward-refused number h = (
+        h .0,
+        outcome-is ∙ turn-refused covers limits M P Ps (stateOf X f) (h .1),
+        h .2,
+      )
+
+      -- it was appended: the member is removed, or its exploration goes on
+      module _ (Y : List ℕ) (d : Extent) (h : FateIs X f (g .rewriting) Y (Appended d)) where
+        pub onward-stopped : covers (g .rewriting) M ≡ true → ExploredIs rules M W e Y (Passed d)
+        onward-stopped c = (outcome-is ∙ turn-stopped covers limits M P Ps (stateOf X f) (h .0) c, h .1)
+
+        pub onward-appended : covers (g .rewriting) M ≡ false → Onward rules M W e Y d (t .rule) (t .choice + 1)
+        onward-appended c =
+            record {
+              working = h .1;
+              among = later-in;
+              outcome = outcome-is ∙ turn-appended covers limits M P Ps (stateOf X f) (h .0) c;
+            }

@@ -1,0 +1,279 @@
+-- The run, midway: what the loop of `explore_all` keeps, and its turns. Assumes nothing.
+use mathlib.Core.Path.{_≡_, refl, sym, _∙_, ap, ap₂, subst}
+use mathlib.Core.List.{List, [], _∷_, _++_, List·Memᴰ·head, List·Memᴰ·eq-of-singleton}
+use mathlib.Core.Option.{Option, none, some}
+use Prim.Native.Nat.{ℕ, zero, suc, _+_, _*_, _-_, _≤_, _<_}
+use native.Mathlib.Omega.{arith}
+use lib.ListN.{length, getD, take, drop}
+use Rattle.cover.specs.Lists.{_∈_, head}
+use Rattle.cover.specs.Term.{Question}
+use Rattle.cover.specs.Search.{covers}
+use Rattle.cover.specs.Form.{form}
+use Rattle.cover.specs.Record.{desk, questionOf, heldIn, recordBytes, Fits, Sound}
+use Rattle.book.specs.declared.Header.{Header}
+use Rattle.book.specs.Header.{HeaderRead}
+use Rattle.book.specs.Book.{bookOf, layoutOf}
+use Rattle.book.specs.Verdict.{Sound as SoundBook}
+use Rattle.book.proofs.Reading.{book-allowed}
+use Rattle.explore.specs.declared.Extent.{Extent}
+use Rattle.explore.specs.declared.Explored.{Explored}
+use Rattle.explore.specs.declared.Explored.the-variants.{Passed, Refused}
+use Rattle.explore.specs.declared.Ran.{Ran}
+use Rattle.explore.specs.declared.Ran.the-variants.{Complete, Refused as NotRun}
+use Rattle.explore.specs.Run.{State, limits, none-left, passed, Pass, Outcome, complete, refused, onPass, oldest}
+use Rattle.explore.specs.Run.{takenUp, start, through, exploring, runBy, allRewritings}
+use Rattle.explore.specs.Steps.{between, within, Reaches, begins, takes-up}
+use Rattle.explore.specs.Union.{membersFrom, membersBytes, firstAt, total, outputSize}
+use Rattle.explore.specs.Answer.{outcomeOf}
+use Rattle.explore.specs.Held.{Held, stateOf, Working, MemberIn, ExploredIs, RanIs}
+use Rattle.explore.proofs.FromCover.{record-size}
+use Rattle.explore.proofs.Pasting.{record-count, record-sound, record-question}
+use Rattle.explore.proofs.Written.{total-is}
+use Rattle.explore.proofs.Holding.{held-appended}
+use Rattle.explore.proofs.Array.{members-count, state-held, held-working}
+use Rattle.explore.proofs.Turns.{turn-complete, turn-ten, turn-explores}
+use Rattle.explore.proofs.Ends.{through-reaches}
+use Rattle.explore.proofs.OfBook.{Member, run-is, first-member, taken-member, desk-fits, member-question}
+
+-- the next of a list
+head-some : {A : Type 0} (n : ℕ) (l : List A) → n < length l → (a : A) × (head (drop n l) ≡ some a)
+head-some n [] h = absurd (omega arith)
+head-some zero (x ∷ l) h = (x, refl)
+head-some (suc n) (x ∷ l) h = head-some n l (omega arith)
+
+head-none : {A : Type 0} (n : ℕ) (l : List A) → length l ≤ n → head (drop n l) ≡ none
+head-none zero [] h = refl
+head-none (suc n) [] h = refl
+head-none zero (x ∷ l) h = absurd (omega arith)
+head-none (suc n) (x ∷ l) h = head-none n l (omega arith)
+
+module _ (B : List ℕ) where
+  abbrev steps : Question → List Question
+  steps = allRewritings (bookOf B .rules)
+
+  abbrev allowed : ℕ
+  allowed = bookOf B .allowed
+
+  abbrev Comes : State → ℕ → Type 0
+  Comes s n = Reaches covers limits steps allowed (bookOf B .question) (between s n)
+
+  -- so many questions were taken up; the run comes to the state that the array holds
+  pub record Running (X : List ℕ) (f : Extent) (taken : ℕ) : Type 0 where
+    pub working : Working X f
+    pub few : taken ≤ bookOf B .allowed
+    pub comes : Reaches covers limits (allRewritings (bookOf B .rules)) (bookOf B .allowed) (bookOf B .question)
+        (between (stateOf X f) taken)
+    pub outcome : outcomeOf B
+        ≡ exploring covers limits (allRewritings (bookOf B .rules)) (bookOf B .allowed - taken) taken (stateOf X f)
+
+  run-by : runBy covers limits steps allowed (bookOf B .question)
+      ≡ exploring covers limits steps allowed 0 (start (bookOf B .question))
+  unfolding runBy
+  run-by = refl
+
+  -- "The form of the question is the first member."
+  module _ (s : SoundBook B) (W : List ℕ) (size : length W ≡ outputSize) where
+    abbrev P : Question
+    P = form (bookOf B .question)
+
+    empty : Held W firstAt 0 0 (record { members = []; explored = 0 })
+    empty =
+        record { size = size; bytes = refl; ends = sym (total-is []); members = refl; explored = refl }
+
+    fits : Fits desk P
+    fits = desk-fits B s (first-member B s .fits)
+
+    short : length P ≤ 8
+    short = first-member B s .fits .most
+
+    room : firstAt + length (recordBytes desk P) ≤ outputSize
+    room = omega (arith, record-size desk P, short)
+
+    module _ (X : List ℕ) (r : ℕ) (end : r ≡ firstAt + length (recordBytes desk (form (bookOf B .question))))
+        (put : X ≡ take firstAt W ++ (recordBytes desk (form (bookOf B .question)) ++ drop r W))
+      where
+        held : Held X r 1 0 (start (bookOf B .question))
+        held =
+            subst (λ (Z : List ℕ). Held Z r 1 0 (start (bookOf B .question))) (sym put)
+            (subst
+            (λ (k : ℕ). Held (take firstAt W ++ (recordBytes desk P ++ drop k W)) k 1 0 (start (bookOf B .question)))
+            (sym end) (held-appended empty (omega arith) P room))
+
+        each : (G : Question → Type 0) → G P → (M : Question) → M ∈ P ∷ [] → G M
+        each G g M m = subst G (sym (List·Memᴰ·eq-of-singleton m)) g
+
+        running-first : Running X (record { len = r; count = 1; front = 0 }) 0
+        running-first =
+            record {
+              working =
+                  held-working held (each (Fits desk) fits) (each (λ M. length M ≤ 8) short) (omega arith) (omega arith);
+              few = omega arith;
+              comes = subst (λ (t : State). Comes t 0) (sym begun) begins;
+              outcome =
+                  run-is (bookOf B .rules) allowed (bookOf B .question)
+                  ∙ run-by
+                  ∙ ap₂ (λ (n : ℕ) (t : State). exploring covers limits steps n 0 t) all (sym begun);
+            }
+          where
+            begun : stateOf X (record { len = r; count = 1; front = 0 }) ≡ start (bookOf B .question)
+            begun = state-held held (each (Fits desk) fits)
+
+            all : allowed ≡ allowed - 0
+            all = omega arith
+
+    -- as `append` is given it
+    module _ (R : List ℕ) (is : R ≡ heldIn desk 56 (form (bookOf B .question))) where
+      pub first-sound : Sound desk R
+      first-sound = subst (Sound desk) (sym is) (record-sound P fits)
+
+      first-question : questionOf desk R ≡ form (bookOf B .question)
+      first-question = ap (questionOf desk) is ∙ record-question P fits
+
+      pub first-fits : firstAt + (1 + getD R 0 0 * 5) ≤ length W
+      first-fits = omega (arith, size, record-count R, ap length first-question, short)
+
+      pub first-running : (X : List ℕ) (r : ℕ) → r ≡ firstAt + length (recordBytes desk (questionOf desk R))
+          → X ≡ take firstAt W ++ (recordBytes desk (questionOf desk R) ++ drop r W)
+          → Running X (record { len = r; count = 1; front = 0 }) 0
+      first-running X r end put =
+          running-first X r
+          (subst (λ (A : Question). r ≡ firstAt + length (recordBytes desk A)) first-question end)
+          (subst (λ (A : Question). X ≡ take firstAt W ++ (recordBytes desk A ++ drop r W)) first-question put)
+
+  pub allowed-read : (h : Header) → HeaderRead B h → h .allowed ≡ bookOf B .allowed
+  allowed-read h r = ap (λ (x : Header). x .allowed) (r .is) ∙ sym (book-allowed B)
+
+  -- one turn
+  module _ {X : List ℕ} {f : Extent} {taken : ℕ} (r : Running X f taken) where
+    abbrev s : State
+    s = stateOf X f
+
+    all-members : length (s .members) ≡ f .count
+    all-members = members-count X firstAt (f .count)
+
+    pub outcome-complete : bookOf B .allowed ≤ 1000 → f .count ≤ f .front → RanIs (outcomeOf B) X (Complete f taken)
+    outcome-complete most h = (
+      r .outcome ∙ turn-complete covers limits steps taken s (allowed - taken) (head-none (f .front) (s .members) (omega (arith, all-members))),
+      r .working,
+      omega (arith, r .few, most),
+    )
+
+    pub outcome-ten : f .front < f .count → taken ≡ allowed → RanIs (outcomeOf B) X (NotRun 10 taken)
+    outcome-ten h e =
+        let m = head-some (f .front) (s .members) (omega (arith, all-members)) in (
+          none-left,
+          r .outcome
+              ∙ ap (λ (n : ℕ). exploring covers limits steps n taken s) none-more
+              ∙ turn-ten covers limits steps taken s (m .1),
+          refl,
+        )
+      where
+        none-more : allowed - taken ≡ 0
+        none-more = omega arith
+
+    -- "Take up the oldest unexplored member", so that it counts as explored
+    module _ (h : f .front < f .count) (more : taken < bookOf B .allowed) where
+      abbrev up : Extent
+      up = record { len = f .len; count = f .count; front = f .front + 1 }
+
+      up-is : stateOf X up ≡ takenUp s
+      up-is = ap (λ (n : ℕ). record { members = s .members; explored = n }) one
+        where
+          one : f .front + 1 ≡ suc (f .front)
+          one = omega arith
+
+      pub taken-working : Working X (record { len = f .len; count = f .count; front = f .front + 1 })
+      taken-working =
+          let w = r .working in
+          record {
+            held =
+                record {
+                  size = w .held .size;
+                  bytes = w .held .bytes;
+                  ends = w .held .ends;
+                  members = w .held .members;
+                  explored = refl;
+                };
+            few = w .few;
+            ahead = omega arith;
+            fits = w .fits;
+            short = w .short;
+          }
+
+      module _ (sound : SoundBook B) (M : Question) (old : oldest (stateOf X f) ≡ some M) where
+        comes-within : Reaches covers limits steps allowed (bookOf B .question)
+            (within M (steps M) (stateOf X up) (suc taken))
+        comes-within =
+            subst (λ (t : State). Reaches covers limits steps allowed (bookOf B .question) (within M (steps M) t (suc taken)))
+            (sym up-is) (takes-up (r .comes) old more)
+
+        member : Member B M
+        member = taken-member B sound comes-within
+
+        pub question-is : (R : List ℕ) → R ≡ heldIn desk 56 M → questionOf desk R ≡ M
+        question-is R e = ap (questionOf desk) e ∙ member-question B sound M (member .fits)
+
+        pub member-of : (R : List ℕ) → R ≡ heldIn desk 56 M → MemberIn B R
+        member-of R e =
+            let q = question-is R e in
+            record {
+              holds = e ∙ ap (heldIn desk 56) (sym q);
+              fits = subst (Fits (layoutOf B)) (sym q) (member .fits);
+            }
+
+        turn : outcomeOf B
+            ≡ onPass (through covers limits M (steps M) (stateOf X up))
+            (λ t. exploring covers limits steps (allowed - suc taken) (suc taken) t)
+            (λ w. refused w (suc taken))
+        turn =
+            r .outcome
+            ∙ ap (λ (n : ℕ). exploring covers limits steps n taken s) left
+            ∙ turn-explores covers limits steps taken s old (allowed - suc taken)
+            ∙ ap
+            (λ (t : State). onPass (through covers limits M (steps M) t)
+            (λ u. exploring covers limits steps (allowed - suc taken) (suc taken) u) (λ w. refused w (suc taken)))
+            (sym up-is)
+          where
+            left : allowed - taken ≡ suc (allowed - suc taken)
+            left = omega arith
+
+        one-taken : suc taken ≡ taken + 1
+        one-taken = omega arith
+
+        -- what its exploration gave
+        module _ (R : List ℕ) (is : R ≡ heldIn desk 56 M) (Y : List ℕ) (v : Explored)
+            (x : ExploredIs (bookOf B .rules) (questionOf desk R) X
+            (record { len = f .len; count = f .count; front = f .front + 1 }) Y v)
+          where
+            gave : (u : Explored) → v ≡ u → ExploredIs (bookOf B .rules) M X up Y u
+            gave u e =
+                subst (ExploredIs (bookOf B .rules) M X up Y) e
+                (subst (λ (A : Question). ExploredIs (bookOf B .rules) A X up Y v) (question-is R is) x)
+
+            after : Pass → Outcome
+            after p =
+                onPass p (λ t. exploring covers limits steps (allowed - suc taken) (suc taken) t)
+                (λ w. refused w (suc taken))
+
+            pub running-next : (d : Extent) → v ≡ Passed d → Running Y d (taken + 1)
+            unfolding after
+            running-next d e =
+                let y = gave (Passed d) e in
+                record {
+                  working = y .1;
+                  few = omega arith;
+                  comes =
+                      subst (λ (n : ℕ). Comes (stateOf Y d) n) one-taken
+                      (through-reaches covers limits steps allowed (bookOf B .question) M (steps M) (stateOf X up)
+                      (stateOf Y d) (suc taken) comes-within (y .0));
+                  outcome =
+                      turn
+                      ∙ ap after (y .0)
+                      ∙ ap (λ (n : ℕ). exploring covers limits steps (allowed - n) n (stateOf Y d)) one-taken;
+                }
+
+            pub outcome-refused : (k : ℕ) → v ≡ Refused k → RanIs (outcomeOf B) Y (NotRun k (taken + 1))
+            unfolding after
+            outcome-refused k e =
+                let y = gave (Refused k) e in
+                (y .0, turn ∙ ap after (y .1) ∙ ap (refused (y .0)) one-taken, y .2)

@@ -1,0 +1,125 @@
+-- `explore::taking_up::oldest` meets its contract. The loop's invariant: the members from the i-th on stand from `at` on.
+-- The measure is the number of explored members left.
+use borrow.Author.Needs.{needs}
+use native.Mathlib.Omega.{arith}
+use mathlib.Core.Path.{_≡_, refl, sym, ap, _∙_, subst}
+use mathlib.Core.List.{List}
+use Prim.Native.Nat.{ℕ, _+_, _*_, _-_, _≤_, _<_}
+use lib.ListN.{length, getD, take, drop}
+use Rattle.cover.specs.Record.{desk, questionOf, heldIn, Sound}
+use Rattle.cover.specs.Lists.{head}
+use Rattle.explore.specs.Union.{membersFrom, firstAt}
+use Rattle.explore.proofs.Finding.{Here, part-is}
+use Rattle.explore.proofs.Array.{stands-all}
+use Rattle.explore.proofs.Among.{From, from-first, from-here, from-next, from-head}
+use Rattle.explore.proofs.taking_up.oldest.Statement.{statement}
+use Rattle.explore.proofs.taking_up.oldest.Tie as tie
+
+abbrev Inv-loop : tie.InvT-loop
+Inv-loop work filled at₀ i₀ at i = (i ≤ filled .front) × From work (filled .count) at i
+
+abbrev μ-loop : tie.MeasureT-loop
+μ-loop work filled at₀ i₀ at i = filled .front - i
+
+-- the member of this turn, and the one after the explored ones
+here : (c : tie.At-loop Inv-loop μ-loop) → c .loop .i < c .before .before .args .filled .count
+    → Here (c .before .before .args .work .now) (c .loop .at) (c .before .before .args .filled .count - (c .loop .i + 1))
+here c l = from-here _ _ (c .loop .inv .1) l
+
+this : (c : tie.After-shared-slice-known2 Inv-loop μ-loop)
+    → Here (c .before .before .before .before .before .args .work .now) (c .before .before .before .loop .at)
+    (c .before .before .before .before .before .args .filled .count - (c .before .before .before .loop .i + 1))
+this c =
+    let l = c .before .before .before in
+    here l (omega (arith, c .before .if1 .taken, l .before .before .pre .0 .ahead))
+
+last : (c : tie.Else1 Inv-loop μ-loop)
+    → Here (c .before .before .before .before .args .work .now) (c .before .before .loop .at)
+    (c .before .before .before .before .args .filled .count - (c .before .before .loop .i + 1))
+last c = let l = c .before .before in here l (omega (arith, l .loop .inv .0, l .before .before .pre .1))
+
+loop-holds : tie.Need-loop-holds Inv-loop μ-loop
+loop-holds c =
+    let b = c .before in
+    (search needs, from-first (b .args .work .now) (b .args .filled .count) (stands-all (b .pre .0)))
+
+shared-slice-read-at : tie.Need-shared-slice-read-at Inv-loop μ-loop
+shared-slice-read-at c =
+    omega (arith, this c)
+
+cast-at : tie.Need-cast-at Inv-loop μ-loop
+cast-at c =
+    omega (arith, this c)
+
+mul-at : tie.Need-mul-at Inv-loop μ-loop
+mul-at c =
+    omega (arith, this c)
+
+add-at : tie.Need-add-at Inv-loop μ-loop
+add-at c =
+    omega (arith, this c)
+
+add-at-2 : tie.Need-add-at-2 Inv-loop μ-loop
+add-at-2 c =
+    omega (arith, this c)
+
+add-i : tie.Need-add-i Inv-loop μ-loop
+add-i c = search needs
+
+loop-less : tie.Need-loop-less Inv-loop μ-loop
+loop-less c = search needs
+
+loop-again : tie.Need-loop-again Inv-loop μ-loop
+loop-again c =
+    let l = c .before .before .before in
+    let w = l .before .before .pre .0 in
+    (search needs, from-next _ _ (l .loop .inv .1) (omega (arith, c .before .if1 .taken, w .ahead)))
+
+sub-copy-record : tie.Need-sub-copy-record Inv-loop μ-loop
+sub-copy-record c =
+    omega (arith, last c)
+
+part-copy-record-start : tie.Need-part-copy-record-start Inv-loop μ-loop
+part-copy-record-start c =
+    omega (arith, last c)
+
+part-copy-record-end : tie.Need-part-copy-record-end Inv-loop μ-loop
+part-copy-record-end c = search needs
+
+copy-record-requires : tie.Need-copy-record-requires Inv-loop μ-loop
+copy-record-requires c κs =
+    let l = c .before .before .before in
+    subst (Sound desk) (sym (part-is (l .before .before .args .work .now) (l .loop .at))) (last (c .before) .sound)
+
+returns : tie.Need-returns Inv-loop μ-loop
+returns c =
+    let l = c .before .before .before .before in
+    let b = l .before .before in
+    let W = b .args .work .now in
+    let all : l .loop .i ≡ b .args .filled .front = omega (arith, c .before .before .if1 .left, l .loop .inv .0) in (
+      questionOf desk (drop (l .loop .at) W),
+      ap (λ (i : ℕ). head (drop i (membersFrom W firstAt (b .args .filled .count)))) (sym all)
+          ∙ from-head _ _ (l .loop .inv .1) (omega (arith, all, b .pre .1)),
+      c .copy-record .ensures ∙ ap (λ (B : List ℕ). heldIn desk 56 (questionOf desk B)) (part-is W (l .loop .at)),
+    )
+
+pub oldest-spec : {M : Type 1} → statement M
+oldest-spec =
+    tie.close
+    (tie.spec
+    Inv-loop
+    μ-loop
+    loop-holds
+    shared-slice-read-at
+    cast-at
+    mul-at
+    add-at
+    add-at-2
+    add-i
+    loop-less
+    loop-again
+    sub-copy-record
+    part-copy-record-start
+    part-copy-record-end
+    copy-record-requires
+    returns)

@@ -1,0 +1,175 @@
+-- `explore::whole_run::explore_all` meets its contract. The loop's invariant is `Running`; the measure is the number of
+-- explorations left.
+use borrow.Author.Needs.{needs}
+use native.Mathlib.Omega.{arith}
+use mathlib.Core.Path.{_≡_, refl, sym, ap, _∙_, subst}
+use mathlib.Core.List.{List}
+use Prim.Native.Nat.{ℕ, _+_, _-_, _≤_, _<_}
+use lib.ListN.{length}
+use Rattle.book.specs.Book.{bookOf}
+use Rattle.book.proofs.Sound.{sound-long}
+use Rattle.explore.proofs.FromBook.{allowed-few}
+use Rattle.explore.proofs.Running.{Running, first-sound, first-fits, first-running, running-next, outcome-complete, outcome-ten}
+use Rattle.explore.proofs.Running.{outcome-refused, taken-working, member-of, allowed-read}
+use Rattle.explore.proofs.whole_run.explore_all.Statement.{statement}
+use Rattle.explore.proofs.whole_run.explore_all.Tie as tie
+
+abbrev Inv-loop : tie.InvT-loop
+Inv-loop book work₀ allowed starts len filled₀ taken₀ work filled taken = Running book work filled taken
+
+abbrev μ-loop : tie.MeasureT-loop
+μ-loop book work₀ allowed starts len filled₀ taken₀ work filled taken = allowed - taken
+
+read-requires : tie.Need-read-requires Inv-loop μ-loop
+read-requires c κs =
+    sound-long _ (c .before .before .pre .0)
+
+starts-requires : tie.Need-starts-requires Inv-loop μ-loop
+starts-requires c κs =
+    c .before .before .before .pre .0
+
+first-member-requires : tie.Need-first-member-requires Inv-loop μ-loop
+first-member-requires c κs =
+    c .before .before .before .before .pre .0
+
+slice-aggregate-append : tie.Need-slice-aggregate-append Inv-loop μ-loop
+slice-aggregate-append c =
+    search needs
+
+append-requires : tie.Need-append-requires Inv-loop μ-loop
+append-requires c κs =
+    let b = c .before .before .before .before .before .before .before in
+    let is = c .before .before .first-member .ensures in
+    let B = b .args .book .now in
+    let W = b .args .work .now in
+    (first-sound B (b .pre .0) W (b .pre .1) _ is, first-fits B (b .pre .0) W (b .pre .1) _ is)
+
+loop-holds : tie.Need-loop-holds Inv-loop μ-loop
+loop-holds c =
+    let b = c .before .before .before .before .before .before .before .before .before .before in
+    let put = c .before .before .append .ensures in
+    first-running (b .args .book .now) (b .pre .0) (b .args .work .now) (b .pre .1) _ (c .before .before .before .before .before .first-member .ensures) _ _
+    (put .0) (put .1)
+
+same-length : tie.Need-same-length Inv-loop μ-loop
+same-length c =
+    c .before .before .before .loop .inv .working .held .size ∙ sym (c .before .before .before .before .before .before .before .before .before .before .before .before .before .before .pre .1)
+
+returns : tie.Need-returns Inv-loop μ-loop
+returns c =
+    let B = c .before .before .before .before .before .before .before .before .before .before .before .before .before .before .args .book .now in
+    outcome-ten B (c .before .before .before .loop .inv) (c .before .if1 .taken) (c .if2 .taken ∙ allowed-read B _ (c .before .before .before .before .before .before .before .before .before .before .before .read .ensures))
+
+-- there are explorations left
+more : (c : tie.Else2 Inv-loop μ-loop) → c .before .before .before .loop .taken < bookOf (c .before .before .before .before .before .before .before .before .before .before .before .before .before .before .args .book .now) .allowed
+more c =
+    let B = c .before .before .before .before .before .before .before .before .before .before .before .before .before .before .args .book .now in
+    omega (arith, c .if2 .left, c .before .before .before .loop .inv .few, allowed-read B _ (c .before .before .before .before .before .before .before .before .before .before .before .read .ensures))
+
+oldest-requires : tie.Need-oldest-requires Inv-loop μ-loop
+oldest-requires c κs =
+    (c .before .before .before .before .loop .inv .working, c .before .before .if1 .taken)
+
+add-taken : tie.Need-add-taken Inv-loop μ-loop
+add-taken c =
+    let b = c .before .before .before .before .before .before .before .before .before .before .before .before .before .before .before .before in
+    omega (arith, c .before .before .before .before .before .loop .inv .few, allowed-few (b .args .book .now) (b .pre .0))
+
+add-filled : tie.Need-add-filled Inv-loop μ-loop
+add-filled c =
+    omega (arith, c .before .before .before .before .if1 .taken, c .before .before .before .before .before .before .loop .inv .working .few)
+
+slice-aggregate-explore : tie.Need-slice-aggregate-explore Inv-loop μ-loop
+slice-aggregate-explore c =
+    search needs
+
+slice-aggregate-explore-2 : tie.Need-slice-aggregate-explore-2 Inv-loop μ-loop
+slice-aggregate-explore-2 c =
+    search needs
+
+explore-requires : tie.Need-explore-requires Inv-loop μ-loop
+explore-requires c κs =
+    let b = c .before .before .before .before .before .before .before .before .before .before .before .before .before .before .before .before .before .before .before .before in
+    let B = b .args .book .now in
+    let old = c .before .before .before .before .oldest .ensures in (
+      b .pre .0,
+      c .before .before .before .before .before .before .before .before .before .before .before .before .before .before .before .before .starts .ensures,
+      member-of B (c .before .before .before .before .before .before .before .before .before .loop .inv) (c .before .before .before .before .before .before .before .if1 .taken) (more (c .before .before .before .before .before .before)) (b .pre .0) (old .0) (old .1) _ (old .2),
+      taken-working B (c .before .before .before .before .before .before .before .before .before .loop .inv) (c .before .before .before .before .before .before .before .if1 .taken) (more (c .before .before .before .before .before .before)),
+    )
+
+enum-known-explored : tie.Need-enum-known-explored Inv-loop μ-loop
+enum-known-explored c =
+    search needs
+
+loop-less : tie.Need-loop-less Inv-loop μ-loop
+loop-less c =
+    let b = c .before .before .before .before .before .before .before .before .before .before .before .before .before .before .before .before .before .before .before .before .before .before .before .before .before .before in
+    omega (arith, more (c .before .before .before .before .before .before .before .before .before .before .before .before), allowed-read (b .args .book .now) _ (c .before .before .before .before .before .before .before .before .before .before .before .before .before .before .before .before .before .before .before .before .before .before .before .read .ensures))
+
+loop-again : tie.Need-loop-again Inv-loop μ-loop
+loop-again c =
+    let b = c .before .before .before .before .before .before .before .before .before .before .before .before .before .before .before .before .before .before .before .before .before .before .before .before .before .before in
+    let B = b .args .book .now in
+    let old = c .before .before .before .before .before .before .before .before .before .before .oldest .ensures in
+    let h = c .before .before .before .before .before .before .before .before .before .before .before .before .before .if1 .taken in
+    running-next B (c .before .before .before .before .before .before .before .before .before .before .before .before .before .before .before .loop .inv) h (more (c .before .before .before .before .before .before .before .before .before .before .before .before)) (b .pre .0) (old .0) (old .1) _ (old .2)
+    (c .before .before .before .before .before .explore .last .1 .1 .1 .0) (c .before .before .before .before .before .explore .result) (c .before .before .before .before .before .explore .ensures) _
+    (c .before .explored .given .1)
+
+enum-known-explored-2 : tie.Need-enum-known-explored-2 Inv-loop μ-loop
+enum-known-explored-2 c =
+    search needs
+
+same-length-2 : tie.Need-same-length-2 Inv-loop μ-loop
+same-length-2 c =
+    c .before .before .before .before .work2 .given ∙ c .before .before .before .before .before .before .before .before .before .before .before .before .before .before .before .loop .inv .working .held .size ∙ sym (c .before .before .before .before .before .before .before .before .before .before .before .before .before .before .before .before .before .before .before .before .before .before .before .before .before .before .pre .1)
+
+returns-2 : tie.Need-returns-2 Inv-loop μ-loop
+returns-2 c =
+    let b = c .before .before .before .before .before .before .before .before .before .before .before .before .before .before .before .before .before .before .before .before .before .before .before .before .before .before in
+    let B = b .args .book .now in
+    let old = c .before .before .before .before .before .before .before .before .before .before .oldest .ensures in
+    let h = c .before .before .before .before .before .before .before .before .before .before .before .before .before .if1 .taken in
+    outcome-refused B (c .before .before .before .before .before .before .before .before .before .before .before .before .before .before .before .loop .inv) h (more (c .before .before .before .before .before .before .before .before .before .before .before .before)) (b .pre .0) (old .0) (old .1) _ (old .2)
+    (c .before .before .before .before .before .explore .last .1 .1 .1 .0) (c .before .before .before .before .before .explore .result) (c .before .before .before .before .before .explore .ensures) _
+    (c .before .explored2 .given .1)
+
+same-length-3 : tie.Need-same-length-3 Inv-loop μ-loop
+same-length-3 c =
+    c .before .before .loop .inv .working .held .size ∙ sym (c .before .before .before .before .before .before .before .before .before .before .before .before .before .pre .1)
+
+returns-3 : tie.Need-returns-3 Inv-loop μ-loop
+returns-3 c =
+    let b = c .before .before .before .before .before .before .before .before .before .before .before .before .before in
+    let B = b .args .book .now in
+    outcome-complete B (c .before .before .loop .inv) (allowed-few B (b .pre .0)) (c .if1 .left)
+
+pub explore-all-spec : {M : Type 1} → statement M
+explore-all-spec =
+    tie.close
+    (tie.spec
+    Inv-loop
+    μ-loop
+    read-requires
+    starts-requires
+    first-member-requires
+    slice-aggregate-append
+    append-requires
+    loop-holds
+    same-length
+    returns
+    oldest-requires
+    add-taken
+    add-filled
+    slice-aggregate-explore
+    slice-aggregate-explore-2
+    explore-requires
+    enum-known-explored
+    loop-less
+    loop-again
+    enum-known-explored-2
+    same-length-2
+    returns-2
+    same-length-3
+    returns-3)

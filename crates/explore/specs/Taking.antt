@@ -1,0 +1,34 @@
+-- Taking the rewritings one at a time (01, "Exploring"): "go through rules in book order, choices in theirs".
+use mathlib.Core.Bool.{true, false}
+use mathlib.Core.List.{List, [], _∷_}
+use mathlib.Core.Option.{Option, none, some}
+use Prim.Native.Nat.{ℕ, suc}
+use lib.ListN.{replicate}
+use Rattle.cover.specs.Term.{Question}
+use Rattle.cover.specs.Record.{desk, heldIn}
+use Rattle.book.specs.Rule.{Rule}
+use Rattle.unify.specs.Step.{next}
+use Rattle.explore.specs.declared.Taken.{Taken}
+use Rattle.explore.specs.Run.{apart}
+
+-- a rewriting with the numbers of its rule and of its choice
+pub record Numbered : Type 0 where
+  pub rule : ℕ
+  pub choice : ℕ
+  pub rewriting : Question
+
+-- what was found for the k-th rule, else what is found later
+abbrev pub orLater : ℕ → Option (ℕ × Question) → Option Numbered → Option Numbered
+orLater k none later = later
+orLater k (some e) later = some (record { rule = k; choice = e .0; rewriting = e .1 })
+
+-- the first rewriting of M by these rules, the k-th one and those after it, from choice n of the k-th on
+unfoldable pub nextAmong : Question → ℕ → ℕ → List Rule → Option Numbered
+nextAmong M k n [] = none
+nextAmong M k n (r ∷ rules) = orLater k (next apart r M n) (nextAmong M (suc k) 0 rules)
+
+-- how the code holds it
+abbrev pub taken : Option Numbered → Taken
+taken none = record { found = false; rule = 0; choice = 0; rewriting = replicate 56 255 }
+taken (some e) =
+    record { found = true; rule = e .rule; choice = e .choice; rewriting = heldIn desk 56 (e .rewriting) }

@@ -1,0 +1,57 @@
+// Exploring one member.
+ghost use Rattle.cover.specs.Record.{desk, questionOf};
+ghost use Rattle.book.specs.Book.{bookOf};
+ghost use Rattle.book.specs.Verdict.{Sound as SoundBook};
+ghost use Rattle.book.specs.Parts.{StartsAt};
+ghost use Rattle.explore.specs.Held.{Working, MemberIn, ExploredIs};
+use super::Explored;
+use super::Extent;
+use super::Fate;
+use super::admitting::admit;
+use super::taking_up::next_rewriting;
+
+// Admits the member's rewritings, one after the other. If the member is itself removed its exploration stops at once,
+// after the append.
+pub fn explore(
+    book: &[u8],
+    starts: &[usize],
+    member: &[u8],
+    work: &mut [u8],
+    filled: Extent,
+) -> Explored
+    requires { ⌜ SoundBook (now book)
+        × StartsAt (now book) (now starts)
+        × MemberIn (now book) (now member)
+        × Working (now work) filled ⌝ }
+    ensures { λ r. ⌜ ExploredIs
+        (bookOf (now (book .entry)) .rules)
+        (questionOf desk (now (member .entry)))
+        (now (work .entry))
+        filled
+        (now (work .exit))
+        r ⌝ }
+{
+    let mut held = filled;
+    let mut rule = 0;
+    let mut from = 0;
+    loop {
+        let taken = next_rewriting(book, starts, member, rule, from);
+        if !taken.found {
+            return Explored::Passed(held);
+        }
+        let rewriting = taken.rewriting;
+        let fate = admit(work, held, &rewriting);
+        match fate {
+            Fate::Dropped => {}
+            Fate::Appended(next) => {
+                if cover::covers_sound(&rewriting, member) {
+                    return Explored::Passed(next);
+                }
+                held = next;
+            }
+            Fate::Refused(number) => return Explored::Refused(number),
+        }
+        rule = taken.rule;
+        from = taken.choice + 1;
+    }
+}

@@ -1,0 +1,60 @@
+// Removing every member that a rewriting covers.
+ghost use mathlib.Core.Path.{_≡_};
+ghost use Prim.Native.Nat.{_≤_};
+ghost use Rattle.cover.specs.Record.{desk, questionOf, Sound};
+ghost use Rattle.explore.specs.Held.{Standing, Kept, Working, stateOf, rest};
+use super::Extent;
+use super::Moved;
+use super::working::move_down;
+
+// Keeps those of the n members from `from` on that the rewriting does not cover, one after the other from `to` on.
+// Each is moved down at most once, however many are removed.
+fn keep_uncovered(work: &mut [u8], from: usize, to: usize, n: usize, rewriting: &[u8]) -> Moved
+    requires { ⌜ (to ≤ from) × (n ≤ 64) × Standing (now work) from n × Sound desk (now rewriting) ⌝ }
+    ensures { λ r. ⌜ Kept
+        (now (work .entry)) from to n
+        (questionOf desk (now (rewriting .entry)))
+        (now (work .exit)) r ⌝ }
+{
+    let mut at = from;
+    let mut end = to;
+    let mut kept = 0;
+    let mut i = 0;
+    while i < n {
+        let width = 1 + (work[at] as usize) * 5;
+        if !cover::covers_sound(rewriting, &work[at..]) {
+            move_down(work, at, end, width);
+            end += width;
+            kept += 1;
+        }
+        at += width;
+        i += 1;
+    }
+    Moved {
+        from: at,
+        to: end,
+        kept: kept,
+    }
+}
+
+// Removes every member that the rewriting covers; the explored ones that stay are in front again.
+pub fn remove_covered(work: &mut [u8], filled: Extent, rewriting: &[u8]) -> Extent
+    requires { ⌜ Working (now work) filled × Sound desk (now rewriting) ⌝ }
+    ensures { λ r. ⌜ Working (now (work .exit)) r
+        × (stateOf (now (work .exit)) r
+        ≡ rest (stateOf (now (work .entry)) filled) (questionOf desk (now (rewriting .entry)))) ⌝ }
+{
+    let explored = keep_uncovered(work, 8, 8, filled.front, rewriting);
+    let others = keep_uncovered(
+        work,
+        explored.from,
+        explored.to,
+        filled.count - filled.front,
+        rewriting,
+    );
+    Extent {
+        len: others.to,
+        count: explored.kept + others.kept,
+        front: explored.kept,
+    }
+}

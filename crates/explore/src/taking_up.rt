@@ -1,0 +1,82 @@
+// Taking up the oldest unexplored member, and taking its next rewriting.
+ghost use mathlib.Core.Path.{_≡_};
+ghost use Prim.Native.Nat.{_≤_, _<_};
+ghost use lib.ListN.{drop};
+ghost use Rattle.cover.specs.Record.{desk, questionOf, heldIn, Sound};
+ghost use Rattle.book.specs.Book.{bookOf};
+ghost use Rattle.book.specs.Header.{rules};
+ghost use Rattle.book.specs.Verdict.{Sound as SoundBook};
+ghost use Rattle.book.specs.Parts.{StartsAt};
+ghost use Rattle.unify.specs.Choice.{mostChoices};
+ghost use Rattle.unify.specs.Held.{QuestionIn};
+ghost use Rattle.explore.specs.Held.{Working, OldestIs};
+ghost use Rattle.explore.specs.Taking.{nextAmong, taken};
+use super::Extent;
+use super::Taken;
+
+// The record at the front of 56 bytes, the rest 255.
+pub fn copy_record(member: &[u8]) -> [u8; 56]
+    requires { ⌜ Sound desk (now member) ⌝ }
+    ensures { λ r. ⌜ r ≡ heldIn desk 56 (questionOf desk (now (member .entry))) ⌝ }
+{
+    let width = 1 + (member[0] as usize) * 5;
+    let mut copy = [255u8; 56];
+    let mut i = 0;
+    while i < width {
+        copy[i] = member[i];
+        i += 1;
+    }
+    copy
+}
+
+// The oldest unexplored member.
+pub fn oldest(work: &[u8], filled: Extent) -> [u8; 56]
+    requires { ⌜ Working (now work) filled × (filled .front < filled .count) ⌝ }
+    ensures { λ r. ⌜ OldestIs (now (work .entry)) filled r ⌝ }
+{
+    let mut at = 8;
+    let mut i = 0;
+    while i < filled.front {
+        at += 1 + (work[at] as usize) * 5;
+        i += 1;
+    }
+    copy_record(&work[at..])
+}
+
+// The first rewriting of the member from choice `from` of the k-th rule on: "rules in book order, choices in theirs".
+pub fn next_rewriting(book: &[u8], starts: &[usize], member: &[u8], k: usize, from: usize) -> Taken
+    requires { ⌜ SoundBook (now book) × StartsAt (now book) (now starts) × QuestionIn (now member) ⌝ }
+    ensures { λ r. ⌜ (r
+        ≡ taken
+        (nextAmong
+        (questionOf desk (now (member .entry)))
+        k
+        from
+        (drop k (bookOf (now (book .entry)) .rules))))
+        × (r .choice < mostChoices) ⌝ }
+{
+    let rules = book::read(book).rules;
+    let mut rule = k;
+    let mut choice = from;
+    while rule < rules {
+        let parts = book::rule_at(book, starts[rule]);
+        let found = unify::next(member, book, parts, choice);
+        if found.found {
+            let rewriting = found.rewriting;
+            return Taken {
+                found: true,
+                rule: rule,
+                choice: found.choice,
+                rewriting: rewriting,
+            };
+        }
+        rule += 1;
+        choice = 0;
+    }
+    Taken {
+        found: false,
+        rule: 0,
+        choice: 0,
+        rewriting: [255u8; 56],
+    }
+}

@@ -1,0 +1,120 @@
+// The run: one book in, the whole union or a numbered refusal out.
+ghost use mathlib.Core.Path.{_≡_};
+ghost use Prim.Native.Nat.{_≤_};
+ghost use lib.ListN.{length};
+ghost use Rattle.cover.specs.Form.{form};
+ghost use Rattle.cover.specs.Record.{desk, heldIn};
+ghost use Rattle.book.specs.Book.{bookOf};
+ghost use Rattle.book.specs.Verdict.{Sound as SoundBook};
+ghost use Rattle.explore.specs.Union.{outputSize};
+ghost use Rattle.explore.specs.Answer.{outcomeOf, Answers};
+ghost use Rattle.explore.specs.Held.{RanIs};
+use super::Answer;
+use super::Explored;
+use super::Extent;
+use super::Ran;
+use super::exploring::explore;
+use super::taking_up::copy_record;
+use super::taking_up::oldest;
+use super::working::append;
+use super::working::copy_out;
+use super::working::fill_header;
+
+// "At most 8 + 64 x 41 = 2,632 bytes", the first member after a header of 8.
+const SIZE: usize = 2632;
+
+const FIRST: usize = 8;
+
+// The form of the book's question.
+fn first_member(book: &[u8]) -> [u8; 56]
+    requires { ⌜ SoundBook (now book) ⌝ }
+    ensures { λ r. ⌜ r ≡ heldIn desk 56 (form (bookOf (now (book .entry)) .question)) ⌝ }
+{
+    let question = book::question(book);
+    cover::in_form(copy_record(&question))
+}
+
+// Takes up the oldest unexplored member and explores it, until none is unexplored or the run is refused.
+fn explore_all(book: &[u8], work: &mut [u8]) -> Ran
+    requires { ⌜ SoundBook (now book) × (length (now work) ≡ outputSize) ⌝ }
+    ensures { λ r. ⌜ RanIs (outcomeOf (now (book .entry))) (now (work .exit)) r ⌝ }
+{
+    let allowed = book::read(book).allowed;
+    let starts = book::starts(book);
+    let first = first_member(book);
+    let len = append(work, FIRST, &first);
+    let mut filled = Extent {
+        len: len,
+        count: 1,
+        front: 0,
+    };
+    let mut taken = 0;
+    while filled.front < filled.count {
+        if taken == allowed {
+            return Ran::Refused(10, taken);
+        }
+        let member = oldest(work, filled);
+        taken += 1;
+        filled.front += 1;
+        let explored = explore(book, &starts, &member, work, filled);
+        match explored {
+            Explored::Passed(next) => filled = next,
+            Explored::Refused(number) => return Ran::Refused(number, taken),
+        }
+    }
+    Ran::Complete(filled, taken)
+}
+
+// Builds a sound book's union in a working array of its own. The output is written on completion alone.
+fn run_sound(book: &[u8], out: &mut [u8]) -> Answer
+    requires { ⌜ SoundBook (now book) × (outputSize ≤ length (now out)) ⌝ }
+    ensures { λ r. ⌜ Answers
+        (now (book .entry))
+        (now (out .entry))
+        (r .number)
+        (r .place)
+        (now (out .exit)) ⌝ }
+{
+    let mut work = [0u8; SIZE];
+    let ran = explore_all(book, &mut work);
+    match ran {
+        Ran::Complete(filled, explored) => {
+            fill_header(&mut work, filled.count, explored, filled.len);
+            copy_out(&work, filled.len, out);
+            Answer {
+                number: 0,
+                place: filled.len,
+            }
+        }
+        Ran::Refused(number, place) => Answer {
+            number: number,
+            place: place,
+        },
+    }
+}
+
+// The union of a book's question, or why there is none: 1 to 7 of the output and of the book's bytes, 8 to 10 as the
+// exploration meets them.
+pub fn run(book: &[u8], out: &mut [u8]) -> Answer
+    ensures { λ r. ⌜ Answers
+        (now (book .entry))
+        (now (out .entry))
+        (r .number)
+        (r .place)
+        (now (out .exit)) ⌝ }
+{
+    if out.len() < SIZE {
+        return Answer {
+            number: 1,
+            place: 0,
+        };
+    }
+    let refusal = book::check(book);
+    if refusal.number != 0 {
+        return Answer {
+            number: refusal.number,
+            place: refusal.place,
+        };
+    }
+    run_sound(book, out)
+}
