@@ -29,9 +29,9 @@ use Rattle.unify.specs.Choice.{mostChoices}
 use Rattle.unify.specs.Step.{next}
 use Rattle.explore.specs.declared.Extent.{Extent}
 use Rattle.explore.specs.declared.Taken.{Taken}
-use Rattle.explore.specs.Run.{State, apart, oldest}
+use Rattle.exploration.specs.Run.{State, apart, oldest}
 use Rattle.explore.specs.Taking.{Numbered, orLater, nextAmong, taken}
-use Rattle.explore.specs.Union.{membersFrom, firstAt}
+use Rattle.exploration.specs.Union.{membersFrom, firstAt}
 use Rattle.explore.specs.Held.{Standing, stateOf, Working}
 use Rattle.explore.proofs.Finding.{Here, stands}
 use Rattle.explore.proofs.Removal.{members-more}

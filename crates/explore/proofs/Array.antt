@@ -18,15 +18,15 @@ use Rattle.cover.proofs.Lists.{keep-out}
 use Rattle.book.specs.Word.{byte}
 use Rattle.explore.specs.declared.Extent.{Extent}
 use Rattle.explore.specs.declared.Moved.{Moved}
-use Rattle.explore.specs.Run.{State, without}
-use Rattle.explore.specs.Union.{membersBytes, membersFrom, memberEnd, firstAt, total, outputSize}
+use Rattle.exploration.specs.Run.{State, without}
+use Rattle.exploration.specs.Union.{membersBytes, membersFrom, memberEnd, firstAt, total, outputSize}
 use Rattle.explore.specs.Held.{Held, Standing, stateOf, Working, Kept, rest}
-use Rattle.explore.proofs.FromCover.{atoms-count, record-size}
-use Rattle.explore.proofs.Written.{total-is, total-most}
+use Rattle.exploration.proofs.FromCover.{atoms-count, record-size}
+use Rattle.exploration.proofs.Written.{total-is, total-most}
 use Rattle.explore.proofs.Holding.{members-append}
 use Rattle.explore.proofs.Stand.{held-stands, held-members}
 use Rattle.explore.proofs.Finding.{question-from, count-from}
-use Rattle.explore.proofs.States.{keep-append}
+use Rattle.exploration.proofs.States.{keep-append}
 
 -- members from a place on
 module _ (W : List ℕ) where

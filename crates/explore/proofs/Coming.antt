@@ -14,9 +14,9 @@ use Rattle.cover.proofs.Lists.{none≢some}
 use Rattle.book.specs.Rule.{Rule}
 use Rattle.unify.specs.Step.{next}
 use Rattle.explore.specs.declared.Taken.{Taken}
-use Rattle.explore.specs.Run.{apart, allRewritings}
+use Rattle.exploration.specs.Run.{apart, allRewritings}
 use Rattle.explore.specs.Taking.{Numbered, orLater, nextAmong, taken}
-use Rattle.explore.proofs.Taking.{yetToCome, rule-begun, rewriting-found, rule-done}
+use Rattle.exploration.proofs.Taking.{yetToCome, rule-begun, rewriting-found, rule-done}
 use Rattle.explore.proofs.Among.{true≢false}
 
 -- from choice n of the first of these rules on

@@ -16,13 +16,13 @@ use Rattle.cover.proofs.Lists.{true→T, false→T}
 use Rattle.explore.specs.declared.Extent.{Extent}
 use Rattle.explore.specs.declared.Fate.{Fate}
 use Rattle.explore.specs.declared.Fate.the-variants.{Dropped, Appended, Refused}
-use Rattle.explore.specs.Run.{State, limits, too-long, no-room, covered, without, appended, admitted, admit}
-use Rattle.explore.specs.Steps.{New, Admitted}
-use Rattle.explore.specs.Union.{membersBytes, membersFrom, firstAt, total, outputSize}
+use Rattle.exploration.specs.Run.{State, limits, too-long, no-room, covered, without, appended, admitted, admit}
+use Rattle.exploration.specs.Steps.{New, Admitted}
+use Rattle.exploration.specs.Union.{membersBytes, membersFrom, firstAt, total, outputSize}
 use Rattle.explore.specs.Held.{Held, stateOf, Working, beforeCovering, rest, FateIs}
-use Rattle.explore.proofs.Admits.{was-covered, was-long, was-full, was-admitted, admit-is}
+use Rattle.exploration.proofs.Admits.{was-covered, was-long, was-full, was-admitted, admit-is}
 use Rattle.explore.proofs.Array.{members-count, state-held, held-working, len-most}
-use Rattle.explore.proofs.Written.{total-is, total-most, members-last}
+use Rattle.exploration.proofs.Written.{total-is, total-most, members-last}
 use Rattle.explore.proofs.Holding.{held-appended}
 use Rattle.explore.proofs.Finding.{covering-found}
 

@@ -15,8 +15,8 @@ use Rattle.cover.specs.Search.{covers, coversOn}
 use Rattle.cover.specs.Record.{desk, argsAt, atomAt, atomsAt, questionOf, termOf, Sound}
 use Rattle.cover.proofs.Decides.{covers-any}
 use Rattle.book.specs.Word.{byte}
-use Rattle.explore.specs.Run.{Test, covered}
-use Rattle.explore.specs.Union.{membersFrom, memberEnd}
+use Rattle.exploration.specs.Run.{Test, covered}
+use Rattle.exploration.specs.Union.{membersFrom, memberEnd}
 use Rattle.explore.specs.Held.{Standing, beforeCovering}
 
 one-more : (n i : ℕ) → i < n → n - i ≡ suc (n - (i + 1))

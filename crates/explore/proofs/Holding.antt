@@ -9,11 +9,11 @@ use lib.Seq.{drop-drop, take-at, drop-at, drop-append-le, length-take-le}
 use Rattle.cover.specs.Term.{Question}
 use Rattle.cover.specs.Record.{desk, questionOf, recordBytes, Fits, Sound}
 use Rattle.cover.proofs.RoundTrip.{Apart}
-use Rattle.explore.specs.Run.{State}
-use Rattle.explore.specs.Union.{wordBytes, membersBytes, firstAt, total, unionBytes, outputSize}
+use Rattle.exploration.specs.Run.{State}
+use Rattle.exploration.specs.Union.{wordBytes, membersBytes, firstAt, total, unionBytes, outputSize}
 use Rattle.explore.specs.Held.{Held}
-use Rattle.explore.proofs.FromCover.{begun-sound, begun-question}
-use Rattle.explore.proofs.Written.{total-is, members-last}
+use Rattle.exploration.proofs.FromCover.{begun-sound, begun-question}
+use Rattle.exploration.proofs.Written.{total-is, members-last}
 
 apart : Apart desk
 apart = record { variables = omega arith; constants = omega arith }

@@ -1,41 +1,22 @@
--- The laws of the exploration, for this crate's proofs and for the crates above.
+-- The laws that the exploration's functions cite: of the working array, of what a turn of each loop keeps, of what each
+-- return shows.
 
--- laws of the lower crates' notions: sound atoms fit, rewritings are small, what a sound book gives
-pub mod FromCover
-pub mod FromUnify
-pub mod Small
-pub mod FromBook
--- one admission; the next rewriting; the run in single steps and where it ends
-pub mod Admits
-pub mod Taking
-pub mod Turns
-pub mod Ends
--- what holds wherever the run comes to, and what a complete run leaves
-pub mod States
-pub mod Kept
-pub mod Covered
-pub mod Left
-pub mod Raised
--- demand 3 over lists, and the run of a sound book
-pub mod Derived
-pub mod OfBook
--- the union as bytes; the working array that holds it, and the search in it
-pub mod Written
-pub mod Holding
+-- records, and bytes copied
+pub mod Records
 pub mod Pasting
+-- the working array that holds a state, and the search in it
+pub mod Holding
 pub mod Finding
 pub mod Stand
+-- removing; admitting
 pub mod Removal
 pub mod Array
 pub mod Fates
+-- the next rewriting, and those yet to come
 pub mod Among
 pub mod Coming
+-- one member explored; the run
 pub mod Onward
 pub mod Running
--- refuses exactly; what follows from the contract
-pub mod Refused
-pub mod Returns
-pub mod Given
--- the three demands
-pub mod Demands
-pub mod Examples
+-- what the whole run shows at its returns
+pub mod Endings

@@ -23,10 +23,10 @@ use Rattle.explore.specs.declared.Fate.{Fate}
 use Rattle.explore.specs.declared.Fate.the-variants.{Dropped, Appended, Refused}
 use Rattle.explore.specs.declared.Explored.{Explored}
 use Rattle.explore.specs.declared.Explored.the-variants.{Passed, Refused as NotExplored}
-use Rattle.explore.specs.Run.{limits, through, apart, allRewritings}
+use Rattle.exploration.specs.Run.{limits, through, apart, allRewritings}
 use Rattle.explore.specs.Held.{stateOf, Working, FateIs, ExploredIs}
-use Rattle.explore.proofs.Admits.{through-none}
-use Rattle.explore.proofs.Turns.{turn-dropped, turn-refused, turn-appended, turn-stopped}
+use Rattle.exploration.proofs.Admits.{through-none}
+use Rattle.exploration.proofs.Turns.{turn-dropped, turn-refused, turn-appended, turn-stopped}
 use Rattle.explore.proofs.Coming.{coming, coming-all, Given}
 
 -- The exploration's outcome is that of the rewritings yet to come, from the state that the array X holds.

@@ -7,13 +7,11 @@ use native.Mathlib.Nat.{zero-add}
 use native.Mathlib.Numerals.{add-one}
 use lib.ListN.{length, getD, set, take, drop, replicate}
 use lib.Seq.{paste, paste-suc, drop-paste, getD-drop, drop-cons, drop-drop, sets-eq}
-use Rattle.cover.specs.Term.{Question}
-use Rattle.cover.specs.Record.{desk, size, questionOf, recordBytes, heldIn, Fits, Sound}
-use Rattle.cover.proofs.Fitting.{count-atoms, sound-fits}
+use Rattle.cover.specs.Record.{desk, size, questionOf, recordBytes, heldIn, Sound}
 use Rattle.cover.proofs.RoundTrip.{atoms-back}
-use Rattle.cover.proofs.Padded.{desk-apart, held-question, held-sound, rest-free}
-use Rattle.explore.specs.Union.{wordBytes}
-use Rattle.explore.proofs.FromCover.{atoms-count, record-size}
+use Rattle.cover.proofs.Padded.{desk-apart, rest-free}
+use Rattle.exploration.specs.Union.{wordBytes}
+use Rattle.exploration.proofs.FromCover.{atoms-count, record-size}
 
 -- one byte more is copied
 pub paste-more : (d : List ℕ) (at : ℕ) (s : List ℕ) (j k : ℕ) → at + j ≡ k → k < length d → j < length s
@@ -51,21 +49,6 @@ begun-record B s =
 pub begun-width : (B : List ℕ) → length (recordBytes desk (questionOf desk B)) ≡ 1 + getD B 0 0 * 5
 unfolding questionOf
 begun-width B = record-size desk (questionOf desk B) ∙ ap (λ (n : ℕ). 1 + n * 5) (atoms-count desk B 1 (getD B 0 0))
-
--- a record's count byte is its question's number of atoms, and its question fits
-pub record-count : (R : List ℕ) → length (questionOf desk R) ≡ getD R 0 0
-unfolding questionOf
-record-count R = count-atoms desk R (getD R 0 0) 1
-
-pub record-fits : (R : List ℕ) → Sound desk R → Fits desk (questionOf desk R)
-record-fits R s = sound-fits desk desk-apart R (omega arith) s
-
--- the record of a question that fits, in 56 bytes
-pub record-sound : (A : Question) → Fits desk A → Sound desk (heldIn desk 56 A)
-record-sound A f = held-sound desk 56 A desk-apart f (omega (arith, f .most))
-
-pub record-question : (A : Question) → Fits desk A → questionOf desk (heldIn desk 56 A) ≡ A
-record-question A f = held-question desk 56 A desk-apart (f .each)
 
 -- copied to the front of 56 bytes of 255 it is the record that they hold
 pub copied-record : (B : List ℕ) → Sound desk B

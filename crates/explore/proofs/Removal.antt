@@ -12,8 +12,8 @@ use Rattle.cover.specs.Search.{covers}
 use Rattle.cover.specs.Record.{desk, questionOf, recordBytes, Sound}
 use Rattle.book.specs.Word.{byte}
 use Rattle.explore.specs.declared.Moved.{Moved}
-use Rattle.explore.specs.Run.{without}
-use Rattle.explore.specs.Union.{membersBytes, membersFrom, memberEnd}
+use Rattle.exploration.specs.Run.{without}
+use Rattle.exploration.specs.Union.{membersBytes, membersFrom, memberEnd}
 use Rattle.explore.specs.Held.{Standing, Kept}
 use Rattle.explore.proofs.Finding.{Here, stands, question-from, count-from, part-is}
 use Rattle.explore.proofs.Pasting.{begun-record, begun-width}

@@ -20,20 +20,20 @@ use Rattle.explore.specs.declared.Explored.{Explored}
 use Rattle.explore.specs.declared.Explored.the-variants.{Passed, Refused}
 use Rattle.explore.specs.declared.Ran.{Ran}
 use Rattle.explore.specs.declared.Ran.the-variants.{Complete, Refused as NotRun}
-use Rattle.explore.specs.Run.{State, limits, none-left, passed, Pass, Outcome, complete, refused, onPass, oldest}
-use Rattle.explore.specs.Run.{takenUp, start, through, exploring, runBy, allRewritings}
-use Rattle.explore.specs.Steps.{between, within, Reaches, begins, takes-up}
-use Rattle.explore.specs.Union.{membersFrom, membersBytes, firstAt, total, outputSize}
-use Rattle.explore.specs.Answer.{outcomeOf}
+use Rattle.exploration.specs.Run.{State, limits, none-left, passed, Pass, Outcome, complete, refused, onPass, oldest}
+use Rattle.exploration.specs.Run.{takenUp, start, through, exploring, runBy, allRewritings}
+use Rattle.exploration.specs.Steps.{between, within, Reaches, begins, takes-up}
+use Rattle.exploration.specs.Union.{membersFrom, membersBytes, firstAt, total, outputSize}
+use Rattle.exploration.specs.Answer.{outcomeOf}
 use Rattle.explore.specs.Held.{Held, stateOf, Working, MemberIn, ExploredIs, RanIs}
-use Rattle.explore.proofs.FromCover.{record-size}
-use Rattle.explore.proofs.Pasting.{record-count, record-sound, record-question}
-use Rattle.explore.proofs.Written.{total-is}
+use Rattle.exploration.proofs.FromCover.{record-size}
+use Rattle.explore.proofs.Records.{record-count, record-sound, record-question, member-question}
+use Rattle.exploration.proofs.Written.{total-is}
 use Rattle.explore.proofs.Holding.{held-appended}
 use Rattle.explore.proofs.Array.{members-count, state-held, held-working}
-use Rattle.explore.proofs.Turns.{turn-complete, turn-ten, turn-explores}
-use Rattle.explore.proofs.Ends.{through-reaches}
-use Rattle.explore.proofs.OfBook.{Member, run-is, first-member, taken-member, desk-fits, member-question}
+use Rattle.exploration.proofs.Turns.{turn-complete, turn-ten, turn-explores}
+use Rattle.exploration.proofs.Ends.{through-reaches}
+use Rattle.exploration.proofs.OfBook.{Member, run-is, first-member, taken-member, desk-fits}
 
 -- the next of a list
 head-some : {A : Type 0} (n : ℕ) (l : List A) → n < length l → (a : A) × (head (drop n l) ≡ some a)

@@ -11,11 +11,11 @@ use Rattle.cover.specs.Term.{Question}
 use Rattle.cover.specs.Record.{desk, recordBytes, Fits, Sound}
 use Rattle.cover.proofs.Padded.{desk-apart}
 use Rattle.book.specs.Word.{byte}
-use Rattle.explore.specs.Run.{State}
-use Rattle.explore.specs.Union.{membersBytes, membersFrom, memberEnd, firstAt}
+use Rattle.exploration.specs.Run.{State}
+use Rattle.exploration.specs.Union.{membersBytes, membersFrom, memberEnd, firstAt}
 use Rattle.explore.specs.Held.{Held, Standing}
-use Rattle.explore.proofs.FromCover.{begun-sound, record-is, record-size}
-use Rattle.explore.proofs.Written.{members-read}
+use Rattle.exploration.proofs.FromCover.{begun-sound, record-is, record-size}
+use Rattle.exploration.proofs.Written.{members-read}
 
 module _ (W : List ℕ) where
   pub members-stand : (i : ℕ) (U : List Question) (R : List ℕ) → ((M : Question) → M ∈ U → Fits desk M)

@@ -20,10 +20,10 @@ use Rattle.explore.specs.declared.Explored.{Explored}
 use Rattle.explore.specs.declared.Explored.the-variants.{Passed, Refused as NotExplored}
 use Rattle.explore.specs.declared.Ran.{Ran}
 use Rattle.explore.specs.declared.Ran.the-variants.{Complete, Refused as NotRun}
-use Rattle.explore.specs.Run.{State, Test, limits, Why, number, dropped, admitted, stopped, passed, failed}
-use Rattle.explore.specs.Run.{Outcome, complete, refused}
-use Rattle.explore.specs.Run.{oldest, without, admit, through, allRewritings}
-use Rattle.explore.specs.Union.{membersBytes, membersFrom, firstAt, total, outputSize, memberEnd}
+use Rattle.exploration.specs.Run.{State, Test, limits, Why, number, dropped, admitted, stopped, passed, failed}
+use Rattle.exploration.specs.Run.{Outcome, complete, refused}
+use Rattle.exploration.specs.Run.{oldest, without, admit, through, allRewritings}
+use Rattle.exploration.specs.Union.{membersBytes, membersFrom, firstAt, total, outputSize, memberEnd}
 
 -- "One working array of 2,632 bytes": the members' records stand one after the other from 8 on and end at `len`;
 -- `count` members, the first `front` of them explored

@@ -1,10 +1,3 @@
--- What a reader must believe of the exploration, in the order in which to read it.
-pub mod Run
-pub mod Steps
-pub mod Union
-pub mod Answer
-pub mod Refusals
-pub mod Chain
+-- How the exploration's own functions hold the run's state. `run`'s contract needs none of it: `exploration` says it.
 pub mod Taking
 pub mod Held
-pub mod Examples

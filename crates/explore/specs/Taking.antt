@@ -9,7 +9,7 @@ use Rattle.cover.specs.Record.{desk, heldIn}
 use Rattle.book.specs.Rule.{Rule}
 use Rattle.unify.specs.Step.{next}
 use Rattle.explore.specs.declared.Taken.{Taken}
-use Rattle.explore.specs.Run.{apart}
+use Rattle.exploration.specs.Run.{apart}
 
 -- a rewriting with the numbers of its rule and of its choice
 pub record Numbered : Type 0 where

@@ -3,7 +3,7 @@ ghost use mathlib.Core.Path.{_≡_};
 ghost use Prim.Native.Nat.{_≤_};
 ghost use Rattle.cover.specs.Search.{covers};
 ghost use Rattle.cover.specs.Record.{desk, questionOf, Sound};
-ghost use Rattle.explore.specs.Union.{membersFrom};
+ghost use Rattle.exploration.specs.Union.{membersFrom};
 ghost use Rattle.explore.specs.Held.{Standing, beforeCovering};
 
 // The number of the first of the count members that covers the rewriting, count where none does. One candidate for the

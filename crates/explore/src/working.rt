@@ -5,7 +5,7 @@ ghost use mathlib.Core.List.{_++_};
 ghost use Prim.Native.Nat.{_+_, _*_, _≤_, _<_};
 ghost use lib.ListN.{length, getD, take, drop};
 ghost use Rattle.cover.specs.Record.{desk, questionOf, recordBytes, Sound};
-ghost use Rattle.explore.specs.Union.{wordBytes};
+ghost use Rattle.exploration.specs.Union.{wordBytes};
 
 // Copies the first len bytes out; the output's other bytes stay.
 pub fn copy_out(work: &[u8], len: usize, out: &mut [u8])

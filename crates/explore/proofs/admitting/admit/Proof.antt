@@ -1,7 +1,8 @@
 -- `explore::admitting::admit` meets its contract: at each return, what became of the rewriting.
 use borrow.Author.Needs.{needs}
 use native.Mathlib.Omega.{arith}
-use Rattle.explore.proofs.Pasting.{begun-width, record-count, record-fits}
+use Rattle.explore.proofs.Pasting.{begun-width}
+use Rattle.explore.proofs.Records.{record-count, record-fits}
 use Rattle.explore.proofs.Array.{stands-all}
 use Rattle.explore.proofs.Fates.{fate-dropped, fate-long, fate-full, room-left, fate-appended}
 use Rattle.explore.proofs.admitting.admit.Statement.{statement}

@@ -12,7 +12,7 @@ use lib.ListN.{length, getD, take, drop}
 use Rattle.cover.specs.Lists.{any}
 use Rattle.cover.specs.Search.{covers, coversOn}
 use Rattle.cover.specs.Record.{desk, atomAt, atomsAt, questionOf, Sound}
-use Rattle.explore.specs.Union.{membersFrom, memberEnd}
+use Rattle.exploration.specs.Union.{membersFrom, memberEnd}
 use Rattle.explore.specs.Held.{Standing, beforeCovering}
 use Rattle.explore.proofs.Finding.{any-end, any-hit, any-miss, covers-one, first-end, first-hit, first-miss}
 use Rattle.explore.proofs.Finding.{Here, stands, part-is}

@@ -20,7 +20,7 @@ use Rattle.explore.specs.Held.{FateIs}
 use denote.Enum.Declared.{tagOf}
 use Rattle.explore.proofs.Fate.{the-type}
 use Rattle.explore.proofs.Coming.{coming, Given, given-none, given-some}
-use Rattle.explore.proofs.OfBook.{rewriting-sound, rewriting-question, member-sound, member-in}
+use Rattle.explore.proofs.Records.{rewriting-sound, rewriting-question, member-sound, member-in}
 use Rattle.explore.proofs.Onward.{Onward, onward-first, onward-done, onward-dropped, onward-refused}
 use Rattle.explore.proofs.Onward.{onward-as, onward-stopped, onward-appended, rewriting-in, fewer}
 use Rattle.explore.proofs.exploring.explore.Statement.{statement}

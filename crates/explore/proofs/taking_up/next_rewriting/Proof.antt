@@ -12,7 +12,7 @@ use Rattle.book.specs.Book.{ruleAt, rulesFrom, ruleStart, bookOf}
 use Rattle.book.proofs.Sound.{sound-long}
 use Rattle.unify.specs.Held.{answered}
 use Rattle.unify.specs.Step.{next}
-use Rattle.explore.specs.Run.{apart}
+use Rattle.exploration.specs.Run.{apart}
 use Rattle.explore.specs.Taking.{nextAmong, taken}
 use Rattle.explore.proofs.Among.{rules-left, among-none, among-found, among-later, rules-read, rules-few}
 use Rattle.explore.proofs.Among.{start-fits, start-inside, parts-in, found-is, few-choices}

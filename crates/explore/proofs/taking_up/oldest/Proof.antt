@@ -8,7 +8,7 @@ use Prim.Native.Nat.{ℕ, _+_, _*_, _-_, _≤_, _<_}
 use lib.ListN.{length, getD, take, drop}
 use Rattle.cover.specs.Record.{desk, questionOf, heldIn, Sound}
 use Rattle.cover.specs.Lists.{head}
-use Rattle.explore.specs.Union.{membersFrom, firstAt}
+use Rattle.exploration.specs.Union.{membersFrom, firstAt}
 use Rattle.explore.proofs.Finding.{Here, part-is}
 use Rattle.explore.proofs.Array.{stands-all}
 use Rattle.explore.proofs.Among.{From, from-first, from-here, from-next, from-head}

@@ -8,7 +8,7 @@ use Prim.Native.Nat.{ℕ, _+_, _-_, _≤_, _<_}
 use lib.ListN.{length}
 use Rattle.book.specs.Book.{bookOf}
 use Rattle.book.proofs.Sound.{sound-long}
-use Rattle.explore.proofs.FromBook.{allowed-few}
+use Rattle.exploration.proofs.FromBook.{allowed-few}
 use Rattle.explore.proofs.Running.{Running, first-sound, first-fits, first-running, running-next, outcome-complete, outcome-ten}
 use Rattle.explore.proofs.Running.{outcome-refused, taken-working, member-of, allowed-read}
 use Rattle.explore.proofs.whole_run.explore_all.Statement.{statement}

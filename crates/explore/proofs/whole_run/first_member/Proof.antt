@@ -7,7 +7,7 @@ use Rattle.cover.specs.Term.{Question}
 use Rattle.cover.specs.Form.{form}
 use Rattle.cover.specs.Record.{desk, questionOf, heldIn, Sound}
 use Rattle.book.proofs.Reading.{question-read, question-sound}
-use Rattle.explore.proofs.Pasting.{record-fits, record-sound, record-question}
+use Rattle.explore.proofs.Records.{record-fits, record-sound, record-question}
 use Rattle.explore.proofs.whole_run.first_member.Statement.{statement}
 use Rattle.explore.proofs.whole_run.first_member.Tie as tie
 

@@ -3,8 +3,8 @@ use borrow.Author.Needs.{needs}
 use native.Mathlib.Omega.{arith}
 use mathlib.Core.Path.{_≡_, sym, ap, _∙_, subst}
 use Rattle.book.specs.declared.Refusal.{Refusal}
-use Rattle.explore.specs.Answer.{Answers}
-use Rattle.explore.proofs.Returns.{returns-small, returns-unsound}
+use Rattle.exploration.specs.Answer.{Answers}
+use Rattle.exploration.proofs.Returns.{returns-small, returns-unsound}
 use Rattle.explore.proofs.whole_run.run.Statement.{statement}
 use Rattle.explore.proofs.whole_run.run.Tie as tie
 

@@ -3,10 +3,10 @@ use borrow.Author.Needs.{needs}
 use native.Mathlib.Omega.{arith}
 use mathlib.Core.Path.{_≡_, sym, ap, _∙_, subst}
 use Rattle.explore.specs.declared.Ran.the-variants.{Complete, Refused}
-use Rattle.explore.specs.Answer.{outcomeOf}
+use Rattle.exploration.specs.Answer.{outcomeOf}
 use Rattle.explore.specs.Held.{RanIs}
 use Rattle.explore.proofs.Array.{len-most}
-use Rattle.explore.proofs.Returns.{returns-stopped, returns-complete}
+use Rattle.explore.proofs.Endings.{returns-stopped, returns-complete}
 use Rattle.explore.proofs.whole_run.run_sound.Statement.{statement}
 use Rattle.explore.proofs.whole_run.run_sound.Tie as tie
 

@@ -8,8 +8,8 @@ use Prim.Native.Nat.{ℕ, suc, _≤_, _<_}
 use lib.Dec.{T}
 use lib.ListN.{length}
 use Rattle.cover.specs.Term.{Question}
-use Rattle.explore.specs.Run.{Test, Limits, State, too-long, no-room, none-left, Outcome, complete, refused}
-use Rattle.explore.specs.Run.{oldest, takenUp, start, covered, without, appended}
+use Rattle.exploration.specs.Run.{Test, Limits, State, too-long, no-room, none-left, Outcome, complete, refused}
+use Rattle.exploration.specs.Run.{oldest, takenUp, start, covered, without, appended}
 
 -- Between two explorations, so many questions taken up; or exploring a member, these of its rewritings yet to come.
 pub data Position : Type 0 where

@@ -10,15 +10,15 @@ use lib.Seq.{take-at, drop-at}
 use Rattle.cover.specs.Lists.{_∈_}
 use Rattle.cover.specs.Term.{Question}
 use Rattle.book.specs.Verdict.{Sound}
-use Rattle.explore.specs.Run.{complete}
-use Rattle.explore.specs.Union.{outputSize, total, unionBytes, membersOf, exploredOf}
-use Rattle.explore.specs.Answer.{Result, union, refusal, outcomeOf, result, answer, written, answerOf}
-use Rattle.explore.specs.Answer.{writtenOf}
-use Rattle.explore.specs.Answer.{Answers}
-use Rattle.explore.specs.Refusals.{Refuses, Completes}
-use Rattle.explore.proofs.OfBook.{Member, whole, members-most, desk-fits}
-use Rattle.explore.proofs.Written.{union-length, total-most, explored-read, union-round}
-use Rattle.explore.proofs.Refused.{refuses-exactly, completes-exactly, refuses-from, ran-union}
+use Rattle.exploration.specs.Run.{complete}
+use Rattle.exploration.specs.Union.{outputSize, total, unionBytes, membersOf, exploredOf}
+use Rattle.exploration.specs.Answer.{Result, union, refusal, outcomeOf, result, answer, written, answerOf}
+use Rattle.exploration.specs.Answer.{writtenOf}
+use Rattle.exploration.specs.Answer.{Answers}
+use Rattle.exploration.specs.Refusals.{Refuses, Completes}
+use Rattle.exploration.proofs.OfBook.{Member, whole, members-most, desk-fits}
+use Rattle.exploration.proofs.Written.{union-length, total-most, explored-read, union-round}
+use Rattle.exploration.proofs.Refused.{refuses-exactly, completes-exactly, refuses-from, ran-union}
 
 module _ {book out : List ℕ} {number place : ℕ} {after : List ℕ} (given : Answers book out number place after) where
   abbrev of : Result

@@ -18,8 +18,8 @@ use Rattle.book.specs.Verdict.{Sound}
 use Rattle.book.proofs.FromCover.{atoms-same}
 use Rattle.book.proofs.Sound.{own-room, sound-header, sound-rule, sound-question, sound-body, sound-head, sound-atoms}
 use Rattle.book.proofs.Reading.{book-rules, book-question, book-allowed, rule-body, rule-head, rule-from}
-use Rattle.explore.proofs.FromCover.{atoms-fit, atoms-count}
-use Rattle.explore.proofs.Small.{RuleFits}
+use Rattle.exploration.proofs.FromCover.{atoms-fit, atoms-count}
+use Rattle.exploration.proofs.Small.{RuleFits}
 
 pub word-is : (W : List ℕ) (i : ℕ) → word W i ≡ byte W i + 256 * byte W (i + 1)
 unfolding word

@@ -6,10 +6,10 @@ use native.Mathlib.Omega.{arith}
 use Rattle.cover.specs.Term.{Question}
 use Rattle.cover.specs.Search.{covers}
 use Rattle.book.specs.Rule.{Rule}
-use Rattle.explore.specs.Run.{Test, Limits, limits, complete, allRewritings, runBy, run}
-use Rattle.explore.specs.Steps.{Position, Reaches, begins, takes-up, drops, appends, stops, finishes}
-use Rattle.explore.specs.Steps.{Ends, completes}
-use Rattle.explore.proofs.Ends.{run-ends, ends-only}
+use Rattle.exploration.specs.Run.{Test, Limits, limits, complete, allRewritings, runBy, run}
+use Rattle.exploration.specs.Steps.{Position, Reaches, begins, takes-up, drops, appends, stops, finishes}
+use Rattle.exploration.specs.Steps.{Ends, completes}
+use Rattle.exploration.proofs.Ends.{run-ends, ends-only}
 
 module _ (cov : Test) (lim : Limits) (steps : Question → List Question) (Q : Question) (less more : ℕ)
     (l : less ≤ more)

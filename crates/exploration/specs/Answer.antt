@@ -9,8 +9,8 @@ use lib.ListN.{length, drop}
 use Rattle.cover.specs.Term.{Question}
 use Rattle.book.specs.Book.{bookOf}
 use Rattle.book.specs.Verdict.{verdict}
-use Rattle.explore.specs.Run.{Outcome, complete, refused, number, run}
-use Rattle.explore.specs.Union.{outputSize, total, unionBytes}
+use Rattle.exploration.specs.Run.{Outcome, complete, refused, number, run}
+use Rattle.exploration.specs.Union.{outputSize, total, unionBytes}
 
 -- a union and how many questions were explored, or a refusal's number and place
 pub data Result : Type 0 where

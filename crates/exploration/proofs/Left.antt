@@ -8,14 +8,14 @@ use lib.ListN.{length}
 use Rattle.cover.specs.Lists.{_∈_}
 use Rattle.cover.specs.Term.{Question}
 use Rattle.cover.specs.Form.{form}
-use Rattle.explore.specs.Run.{Test, Limits, complete, runBy}
-use Rattle.explore.specs.Steps.{Ends, completes}
-use Rattle.explore.specs.Chain.{Apart}
-use Rattle.explore.proofs.Ends.{run-ends}
-use Rattle.explore.proofs.Kept.{taken-allowed}
-use Rattle.explore.proofs.States.{all-explored}
-use Rattle.explore.proofs.Covered.{CoveredBy, members-apart, members-some, members-most, question-covered}
-use Rattle.explore.proofs.Covered.{explored-closed, members-good}
+use Rattle.exploration.specs.Run.{Test, Limits, complete, runBy}
+use Rattle.exploration.specs.Steps.{Ends, completes}
+use Rattle.exploration.specs.Chain.{Apart}
+use Rattle.exploration.proofs.Ends.{run-ends}
+use Rattle.exploration.proofs.Kept.{taken-allowed}
+use Rattle.exploration.proofs.States.{all-explored}
+use Rattle.exploration.proofs.Covered.{CoveredBy, members-apart, members-some, members-most, question-covered}
+use Rattle.exploration.proofs.Covered.{explored-closed, members-good}
 
 module _ (Cov : Question → Question → Type 0) (steps : Question → List Question) (Q : Question)
     (Good : Question → Type 0)

@@ -13,7 +13,7 @@ use lib.Seq.{take-append-seam}
 use Rattle.cover.specs.Lists.{_∈_, keep, head}
 use Rattle.cover.specs.Term.{Question}
 use Rattle.cover.proofs.Lists.{none≢some, cond-yes, cond-no, keep-in, keep-out}
-use Rattle.explore.specs.Run.{Test, State, oldest, takenUp, without, appended}
+use Rattle.exploration.specs.Run.{Test, State, oldest, takenUp, without, appended}
 
 module _ {A : Type 0} where
   pub keep-append : (p : A → Bool) (l k : List A) → keep p (l ++ k) ≡ keep p l ++ keep p k

@@ -21,7 +21,7 @@ use Rattle.unify.specs.Step.{up, move, Below, rewriting, rewritings}
 use Rattle.unify.proofs.Listed.{Made, rewritings-out}
 use Rattle.unify.proofs.Sizes.{form-length, form-atom, in-form-below, listed-form, listed-length, listed-shape}
 use Rattle.unify.proofs.Sizes.{listed-constant}
-use Rattle.explore.proofs.FromCover.{in-some, first-in}
+use Rattle.exploration.proofs.FromCover.{in-some, first-in}
 
 -- the layout of questions of at most m atoms in form
 abbrev pub roomFor : Layout → ℕ → Layout

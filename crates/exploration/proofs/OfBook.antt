@@ -10,30 +10,27 @@ use Rattle.cover.specs.Term.{Question}
 use Rattle.cover.specs.Covers.{Covers}
 use Rattle.cover.specs.Search.{covers}
 use Rattle.cover.specs.Form.{form}
-use Rattle.cover.specs.Record.{desk, questionOf as deskQuestion, heldIn, recordBytes, atomBytes, Fits, Sound}
+use Rattle.cover.specs.Record.{desk, Fits}
 use Rattle.cover.proofs.Preorder.{covers-refl, covers-trans}
 use Rattle.cover.proofs.Decides.{covers-decides}
 use Rattle.cover.proofs.Form.{form-equivalent}
 use Rattle.cover.proofs.Same.{form-form}
-use Rattle.cover.proofs.Padded.{held-sound}
 use Rattle.book.specs.Rule.{Rule}
 use Rattle.book.specs.Book.{bookOf, layoutOf}
-use Rattle.book.specs.Verdict.{Sound as SoundBook}
+use Rattle.book.specs.Verdict.{Sound}
 use Rattle.book.proofs.Sound.{sound-header}
 use Rattle.unify.specs.Step.{Below, rewritings}
-use Rattle.unify.specs.Held.{inBook, QuestionIn}
 use Rattle.unify.proofs.Collected.{gather-in, gather-out}
-use Rattle.explore.specs.Run.{limits, State, complete, apart, allRewritings, runBy, run}
-use Rattle.explore.specs.Steps.{within, Reaches}
-use Rattle.explore.specs.Chain.{SomeHolds, Derives, Reached, first, next}
-use Rattle.explore.proofs.FromCover.{Narrower, wider-fits}
-use Rattle.explore.proofs.Pasting.{record-sound, record-question}
-use Rattle.explore.proofs.Small.{roomFor, fits-below, form-fits, rewriting-formed, rewriting-short}
-use Rattle.explore.proofs.Small.{rewriting-fits}
-use Rattle.explore.proofs.FromBook.{rules-fit, question-some, question-few, question-fits}
-use Rattle.explore.proofs.Covered.{taken-good}
-use Rattle.explore.proofs.Left.{Left, complete-left, complete-most, complete-taken}
-use Rattle.explore.proofs.Derived.{Union, union-answers}
+use Rattle.exploration.specs.Run.{limits, State, complete, apart, allRewritings, runBy, run}
+use Rattle.exploration.specs.Steps.{within, Reaches}
+use Rattle.exploration.specs.Chain.{SomeHolds, Derives, Reached, first, next}
+use Rattle.exploration.proofs.FromCover.{Narrower, wider-fits}
+use Rattle.exploration.proofs.Small.{roomFor, fits-below, form-fits, rewriting-formed, rewriting-short}
+use Rattle.exploration.proofs.Small.{rewriting-fits}
+use Rattle.exploration.proofs.FromBook.{rules-fit, question-some, question-few, question-fits}
+use Rattle.exploration.proofs.Covered.{taken-good}
+use Rattle.exploration.proofs.Left.{Left, complete-left, complete-most, complete-taken}
+use Rattle.exploration.proofs.Derived.{Union, union-answers}
 
 pub run-is : (rules : List Rule) (allowed : ℕ) (Q : Question)
     → run rules allowed Q ≡ runBy covers limits (allRewritings rules) allowed Q
@@ -54,7 +51,7 @@ module _ (B : List ℕ) where
     pub formed : form M ≡ M
     pub reached : Reached apart (bookOf B .rules) (bookOf B .question) M
 
-  module _ (s : SoundBook B) where
+  module _ (s : Sound B) where
     pub first-member : Member (form questionOf)
     first-member =
         record {
@@ -139,44 +136,3 @@ module _ (B : List ℕ) where
         let f = rules-fit B s (y .0) (y .1) in
         let h = rewriting-short (layoutOf B) {cap = 8} m f (y .2) in
         wider-fits (narrower 11 (omega arith)) (rewriting-fits (layoutOf B) {cap = 8} m f (y .2) 11 (omega arith))
-
-    -- so the record of a rewriting of a member can be handed to covering
-    module _ (M : Question) (m : Fits (layoutOf B) M) (P : Question) (x : P ∈ allRewritings rulesOf M) where
-      pub rewriting-sound : Sound desk (heldIn desk 56 P)
-      rewriting-sound = record-sound P (rewriting-desk M m P x)
-
-      pub rewriting-question : deskQuestion desk (heldIn desk 56 P) ≡ P
-      rewriting-question = record-question P (rewriting-desk M m P x)
-
-    -- and the record of a member to covering and to the lister
-    module _ (M : Question) (m : Fits (layoutOf B) M) where
-      pub member-question : deskQuestion desk (heldIn desk 56 M) ≡ M
-      member-question = record-question M (desk-fits m)
-
-      pub member-sound : Sound desk (heldIn desk 56 M)
-      member-sound = record-sound M (desk-fits m)
-
-      listed-fits : Fits inBook M
-      listed-fits =
-          wider-fits
-          (record {
-            atoms = omega arith;
-            relations = sound-header B s .few-relations;
-            places = omega arith;
-            variables = omega arith;
-            constants = sound-header B s .few-constants;
-          })
-          m
-
-      listed-sound : Sound inBook (heldIn desk 56 M)
-      unfolding heldIn recordBytes atomBytes
-      listed-sound =
-          held-sound inBook 56 M (record { variables = omega arith; constants = omega arith }) listed-fits
-          (omega (arith, listed-fits .most))
-
-      pub member-in : QuestionIn (heldIn desk 56 M)
-      member-in =
-          record {
-            atoms = record { fits = listed-sound .fits; sound = listed-sound .atoms };
-            few = listed-sound .most;
-          }

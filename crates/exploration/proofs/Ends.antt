@@ -12,15 +12,15 @@ use native.Mathlib.Omega.{arith}
 use lib.Dec.{T}
 use Rattle.cover.specs.Term.{Question}
 use Rattle.cover.proofs.Lists.{decide, T→true, T→false}
-use Rattle.explore.specs.Run.{Test, Limits, State, Why, none-left, Admission, stopped, Pass, passed, failed}
-use Rattle.explore.specs.Run.{Outcome, refused, onPass, oldest, takenUp, start, appended, admit, through}
-use Rattle.explore.specs.Run.{exploring, runBy}
-use Rattle.explore.specs.Steps.{Position, between, within, Admitted, Reaches, begins, takes-up, drops, appends}
-use Rattle.explore.specs.Steps.{stops, finishes, Ends, completes, eight, nine, ten}
-use Rattle.explore.proofs.Admits.{Admits, was-covered, was-long, was-full, was-admitted, admits, admit-is}
-use Rattle.explore.proofs.Admits.{through-none}
-use Rattle.explore.proofs.Turns.{turn-dropped, turn-refused, turn-appended, turn-stopped}
-use Rattle.explore.proofs.Turns.{turn-complete, turn-ten, turn-explores}
+use Rattle.exploration.specs.Run.{Test, Limits, State, Why, none-left, Admission, stopped, Pass, passed, failed}
+use Rattle.exploration.specs.Run.{Outcome, refused, onPass, oldest, takenUp, start, appended, admit, through}
+use Rattle.exploration.specs.Run.{exploring, runBy}
+use Rattle.exploration.specs.Steps.{Position, between, within, Admitted, Reaches, begins, takes-up, drops, appends}
+use Rattle.exploration.specs.Steps.{stops, finishes, Ends, completes, eight, nine, ten}
+use Rattle.exploration.proofs.Admits.{Admits, was-covered, was-long, was-full, was-admitted, admits, admit-is}
+use Rattle.exploration.proofs.Admits.{through-none}
+use Rattle.exploration.proofs.Turns.{turn-dropped, turn-refused, turn-appended, turn-stopped}
+use Rattle.exploration.proofs.Turns.{turn-complete, turn-ten, turn-explores}
 
 passed-injective : {s t : State} → passed s ≡ passed t → s ≡ t
 passed-injective {s} e = ap (λ (p : Pass). onPass p (λ x. x) (λ w. s)) e

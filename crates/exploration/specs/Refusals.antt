@@ -9,9 +9,9 @@ use Rattle.cover.specs.Term.{Question}
 use Rattle.cover.specs.Search.{covers}
 use Rattle.book.specs.Book.{bookOf}
 use Rattle.book.specs.Refusals.{Applies as OfBook}
-use Rattle.explore.specs.Run.{limits, Why, number, Outcome, complete, refused, allRewritings}
-use Rattle.explore.specs.Steps.{Ends}
-use Rattle.explore.specs.Union.{outputSize}
+use Rattle.exploration.specs.Run.{limits, Why, number, Outcome, complete, refused, allRewritings}
+use Rattle.exploration.specs.Steps.{Ends}
+use Rattle.exploration.specs.Union.{outputSize}
 
 -- "| no. | when | place |", 1 to 7
 pub data Applies (B : List ℕ) (room : ℕ) : ℕ → ℕ → Type 0 where

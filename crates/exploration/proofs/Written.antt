@@ -11,10 +11,10 @@ use Rattle.cover.specs.Term.{Question}
 use Rattle.cover.specs.Record.{desk, size, atomsAt, atomBytes, recordBytes, Fits}
 use Rattle.cover.proofs.RoundTrip.{Apart, atoms-read}
 use Rattle.book.specs.Word.{byte, word}
-use Rattle.explore.specs.Union.{membersBytes, total, unionBytes, outputSize}
-use Rattle.explore.specs.Union.{memberEnd, membersFrom, membersOf, exploredOf, totalOf}
-use Rattle.explore.proofs.FromCover.{record-is, record-size}
-use Rattle.explore.proofs.FromBook.{word-is}
+use Rattle.exploration.specs.Union.{membersBytes, total, unionBytes, outputSize}
+use Rattle.exploration.specs.Union.{memberEnd, membersFrom, membersOf, exploredOf, totalOf}
+use Rattle.exploration.proofs.FromCover.{record-is, record-size}
+use Rattle.exploration.proofs.FromBook.{word-is}
 
 apart : Apart desk
 apart = record { variables = omega arith; constants = omega arith }

@@ -17,13 +17,13 @@ use Rattle.book.specs.Refusals.{Applies as OfBook}
 use Rattle.book.specs.Verdict.{IsVerdict, sound, refused as refused-book, verdict, Sound}
 use Rattle.book.proofs.Exact.{verdict-exact, number-from}
 use Rattle.book.proofs.Sound.{sound-none}
-use Rattle.explore.specs.Run.{limits, Why, too-long, no-room, none-left, number, Outcome, complete, refused}
-use Rattle.explore.specs.Run.{allRewritings}
-use Rattle.explore.specs.Union.{outputSize}
-use Rattle.explore.specs.Answer.{Result, union, refusal, resultOf, outcomeOf, result}
-use Rattle.explore.specs.Refusals.{Applies, one, of-book, RunEnds, Refuses, smallest, met, Completes}
-use Rattle.explore.proofs.Ends.{run-ends, ends-only}
-use Rattle.explore.proofs.OfBook.{run-is}
+use Rattle.exploration.specs.Run.{limits, Why, too-long, no-room, none-left, number, Outcome, complete, refused}
+use Rattle.exploration.specs.Run.{allRewritings}
+use Rattle.exploration.specs.Union.{outputSize}
+use Rattle.exploration.specs.Answer.{Result, union, refusal, resultOf, outcomeOf, result}
+use Rattle.exploration.specs.Refusals.{Applies, one, of-book, RunEnds, Refuses, smallest, met, Completes}
+use Rattle.exploration.proofs.Ends.{run-ends, ends-only}
+use Rattle.exploration.proofs.OfBook.{run-is}
 
 -- the computed outcome is the end of the book's run, and the only one
 module _ (B : List ℕ) where

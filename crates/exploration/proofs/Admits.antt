@@ -10,9 +10,9 @@ use lib.Dec.{T, ltb, ltb→lt, nltb→le}
 use lib.ListN.{length}
 use Rattle.cover.specs.Term.{Question}
 use Rattle.cover.proofs.Lists.{decide, clash, cond-yes, cond-no}
-use Rattle.explore.specs.Run.{Test, Limits, State, too-long, no-room, Admission, dropped, admitted, stopped}
-use Rattle.explore.specs.Run.{passed, failed, onAdmission, covered, without, appended, admit, through}
-use Rattle.explore.specs.Steps.{New, Admitted}
+use Rattle.exploration.specs.Run.{Test, Limits, State, too-long, no-room, Admission, dropped, admitted, stopped}
+use Rattle.exploration.specs.Run.{passed, failed, onAdmission, covered, without, appended, admit, through}
+use Rattle.exploration.specs.Steps.{New, Admitted}
 
 module _ (cov : Test) (lim : Limits) where
   pub data Admits (s : State) (P : Question) : Admission → Type 0 where

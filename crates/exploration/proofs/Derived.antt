@@ -15,7 +15,7 @@ use Rattle.book.specs.Rule.{Rule}
 use Rattle.unify.specs.Step.{Below, rewritings}
 use Rattle.unify.proofs.Complete.{Held, step-complete}
 use Rattle.unify.proofs.Sound.{step-sound}
-use Rattle.explore.specs.Chain.{Holds, SomeHolds, Chain, here, apply, Derives, Reached, first, next}
+use Rattle.exploration.specs.Chain.{Holds, SomeHolds, Chain, here, apply, Derives, Reached, first, next}
 
 module _ (k : ℕ) (rules : List Rule) (Q : Question) where
   -- what a rewriting that is reached says, rule application derives

@@ -9,10 +9,10 @@ use Rattle.book.specs.Book.{ruleAt, rulesFrom, after, bookOf}
 use Rattle.book.specs.Verdict.{inTable, offsetsRight, wrongPlaces, ruleRight, wrongRule, wrongPlace, wrongInAtom}
 use Rattle.book.specs.Verdict.{wrongInAtoms, wrongInRules, wrongByte, contents, verdict}
 use Rattle.unify.specs.Step.{step, listed, rewritings}
-use Rattle.explore.specs.Run.{admit, through, exploring, runBy, run}
-use Rattle.explore.specs.Union.{total, unionBytes}
-use Rattle.explore.specs.Answer.{result, answerOf}
-use Rattle.explore.specs.Examples.{shown, examples, more-examples, shownBook, books}
+use Rattle.exploration.specs.Run.{admit, through, exploring, runBy, run}
+use Rattle.exploration.specs.Union.{total, unionBytes}
+use Rattle.exploration.specs.Answer.{result, answerOf}
+use Rattle.exploration.specs.Examples.{shown, examples, more-examples, shownBook, books}
 
 pub examples-hold : map shown examples ≡ examples
 unfolding examples covers firstMap findMap form step listed rewritings admit through exploring runBy run

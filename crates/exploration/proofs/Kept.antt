@@ -9,10 +9,10 @@ use native.Mathlib.Omega.{arith}
 use lib.Dec.{T}
 use lib.ListN.{take}
 use Rattle.cover.specs.Term.{Question}
-use Rattle.explore.specs.Run.{Test, Limits, State, oldest, takenUp, start, covered, without, appended}
-use Rattle.explore.specs.Steps.{Position, between, within, Admitted, Reaches, begins, takes-up, drops, appends}
-use Rattle.explore.specs.Steps.{stops, finishes}
-use Rattle.explore.proofs.States.{explored, taken-last, last-stays}
+use Rattle.exploration.specs.Run.{Test, Limits, State, oldest, takenUp, start, covered, without, appended}
+use Rattle.exploration.specs.Steps.{Position, between, within, Admitted, Reaches, begins, takes-up, drops, appends}
+use Rattle.exploration.specs.Steps.{stops, finishes}
+use Rattle.exploration.proofs.States.{explored, taken-last, last-stays}
 
 abbrev pub stateOf : Position → State
 stateOf (between s n) = s

@@ -18,17 +18,17 @@ use Rattle.book.specs.Verdict.{Sound}
 use Rattle.unify.specs.Step.{listed, rewritings}
 use Rattle.unify.specs.Published.{Publishes}
 use Rattle.unify.proofs.Exactly.{exactly}
-use Rattle.explore.specs.Run.{limits, State, complete, apart, allRewritings}
-use Rattle.explore.specs.Steps.{within, Reaches}
-use Rattle.explore.specs.Union.{outputSize, unionBytes, membersOf, exploredOf}
-use Rattle.explore.specs.Answer.{outcomeOf, Answers}
-use Rattle.explore.specs.Refusals.{Refuses, Completes}
-use Rattle.explore.specs.Chain.{Ledger, SomeHolds, Derives, Reached, Apart}
-use Rattle.explore.proofs.FromUnify.{rewritings-listed}
-use Rattle.explore.proofs.OfBook.{member-below, taken-member, whole, members-most as most-members, run-answers}
-use Rattle.explore.proofs.Given.{Whole, all, kind, members-are, refused-exactly, complete-exactly}
-use Rattle.explore.proofs.Returns.{returns-union}
-use Rattle.explore.proofs.Given.{refusal-unchanged, rest-untouched, same-length, the-run, the-bytes}
+use Rattle.exploration.specs.Run.{limits, State, complete, apart, allRewritings}
+use Rattle.exploration.specs.Steps.{within, Reaches}
+use Rattle.exploration.specs.Union.{outputSize, unionBytes, membersOf, exploredOf}
+use Rattle.exploration.specs.Answer.{outcomeOf, Answers}
+use Rattle.exploration.specs.Refusals.{Refuses, Completes}
+use Rattle.exploration.specs.Chain.{Ledger, SomeHolds, Derives, Reached, Apart}
+use Rattle.exploration.proofs.FromUnify.{rewritings-listed}
+use Rattle.exploration.proofs.OfBook.{member-below, taken-member, whole, members-most as most-members, run-answers}
+use Rattle.exploration.proofs.Given.{Whole, all, kind, members-are, refused-exactly, complete-exactly}
+use Rattle.exploration.proofs.Returns.{returns-union}
+use Rattle.exploration.proofs.Given.{refusal-unchanged, rest-untouched, same-length, the-run, the-bytes}
 
 -- DEMAND 1. "For every book and every output buffer: the answer and every byte of the output are determined; it is a
 -- refusal exactly when 01's table says, with that place; a refusal changes no byte."

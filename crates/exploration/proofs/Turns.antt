@@ -6,11 +6,11 @@ use mathlib.Core.List.{List, _∷_}
 use mathlib.Core.Option.{Option, none, some}
 use Prim.Native.Nat.{ℕ, zero, suc}
 use Rattle.cover.specs.Term.{Question}
-use Rattle.explore.specs.Run.{Test, Limits, State, Why, none-left, Admission, dropped, admitted, stopped}
-use Rattle.explore.specs.Run.{Pass, passed, failed}
-use Rattle.explore.specs.Run.{Outcome, complete, refused, onAdmission, onPass, onOption, oldest, takenUp}
-use Rattle.explore.specs.Run.{admit, through, exploring}
-use Rattle.explore.proofs.Admits.{through-next}
+use Rattle.exploration.specs.Run.{Test, Limits, State, Why, none-left, Admission, dropped, admitted, stopped}
+use Rattle.exploration.specs.Run.{Pass, passed, failed}
+use Rattle.exploration.specs.Run.{Outcome, complete, refused, onAdmission, onPass, onOption, oldest, takenUp}
+use Rattle.exploration.specs.Run.{admit, through, exploring}
+use Rattle.exploration.proofs.Admits.{through-next}
 
 -- one rewriting P of the member M, and Ps after it: by what becomes of it
 module _ (cov : Test) (lim : Limits) (M P : Question) (Ps : List Question) (s : State) where

@@ -10,9 +10,9 @@ use Rattle.cover.specs.Search.{covers}
 use Rattle.book.specs.Rule.{Rule}
 use Rattle.unify.specs.Step.{rewritings}
 use Rattle.unify.specs.Examples.{at1, at2}
-use Rattle.explore.specs.Run.{too-long, no-room, none-left, Outcome, complete, refused, apart, run}
-use Rattle.explore.specs.Answer.{result, written, answerOf}
-use Rattle.explore.specs.Union.{outputSize, wordBytes}
+use Rattle.exploration.specs.Run.{too-long, no-room, none-left, Outcome, complete, refused, apart, run}
+use Rattle.exploration.specs.Answer.{result, written, answerOf}
+use Rattle.exploration.specs.Union.{outputSize, wordBytes}
 
 -- an example and what comes of it: whether one question covers another, a question's rewritings by a rule, a run
 pub data Example : Type 0 where

@@ -15,13 +15,13 @@ use Rattle.cover.specs.Lists.{_∈_, keep}
 use Rattle.cover.specs.Term.{Question}
 use Rattle.cover.specs.Form.{form}
 use Rattle.cover.proofs.Lists.{decide, clash, any-in, any-out, keep-out}
-use Rattle.explore.specs.Run.{Test, Limits, State, oldest, takenUp, covered, without}
-use Rattle.explore.specs.Run.{appended}
-use Rattle.explore.specs.Steps.{Position, between, within, Admitted, Reaches}
-use Rattle.explore.specs.Chain.{Apart}
-use Rattle.explore.proofs.Kept.{stateOf, admissions-keep, KeptByExploration, explorations-keep}
-use Rattle.explore.proofs.States.{explored, oldest-in, taken-cases, stays, new-in}
-use Rattle.explore.proofs.States.{explored-out, each-member}
+use Rattle.exploration.specs.Run.{Test, Limits, State, oldest, takenUp, covered, without}
+use Rattle.exploration.specs.Run.{appended}
+use Rattle.exploration.specs.Steps.{Position, between, within, Admitted, Reaches}
+use Rattle.exploration.specs.Chain.{Apart}
+use Rattle.exploration.proofs.Kept.{stateOf, admissions-keep, KeptByExploration, explorations-keep}
+use Rattle.exploration.proofs.States.{explored, oldest-in, taken-cases, stays, new-in}
+use Rattle.exploration.proofs.States.{explored-out, each-member}
 
 -- some member covers it
 abbrev pub CoveredBy : (Question → Question → Type 0) → List Question → Question → Type 0

@@ -1,0 +1,30 @@
+-- The laws of the exploration, for this crate's proofs and for the crates above.
+
+-- laws of the lower crates' notions: sound atoms fit, rewritings are small, what a sound book gives
+pub mod FromCover
+pub mod FromUnify
+pub mod Small
+pub mod FromBook
+-- one admission; the next rewriting; the run in single steps and where it ends
+pub mod Admits
+pub mod Taking
+pub mod Turns
+pub mod Ends
+-- what holds wherever the run comes to, and what a complete run leaves
+pub mod States
+pub mod Kept
+pub mod Covered
+pub mod Left
+pub mod Raised
+-- demand 3 over lists, and the run of a sound book
+pub mod Derived
+pub mod OfBook
+-- the union as bytes
+pub mod Written
+-- refuses exactly; what follows from the contract
+pub mod Refused
+pub mod Returns
+pub mod Given
+-- the three demands
+pub mod Demands
+pub mod Examples

@@ -1,0 +1,1 @@
+// The definitions of the exploration, its laws and the three demands: specs/ and proofs/. The code is in `explore`.
