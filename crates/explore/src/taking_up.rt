@@ -35,10 +35,10 @@ pub fn oldest(work: &[u8], filled: Extent) -> [u8; 56]
     ensures { λ r. ⌜ OldestIs (now (work .entry)) filled r ⌝ }
 {
     let mut at = 8;
-    let mut i = 0;
-    while i < filled.front {
+    let mut passed = 0;
+    while passed < filled.front {
         at += 1 + (work[at] as usize) * 5;
-        i += 1;
+        passed += 1;
     }
     copy_record(&work[at..])
 }

@@ -16,26 +16,26 @@ use Rattle.explore.proofs.taking_up.oldest.Statement.{statement}
 use Rattle.explore.proofs.taking_up.oldest.Tie as tie
 
 abbrev Inv-loop : tie.InvT-loop
-Inv-loop work filled at₀ i₀ at i = (i ≤ filled .front) × From work (filled .count) at i
+Inv-loop work filled at₀ passed₀ at passed = (passed ≤ filled .front) × From work (filled .count) at passed
 
 abbrev μ-loop : tie.MeasureT-loop
-μ-loop work filled at₀ i₀ at i = filled .front - i
+μ-loop work filled at₀ passed₀ at passed = filled .front - passed
 
 -- the member of this turn, and the one after the explored ones
-here : (c : tie.At-loop Inv-loop μ-loop) → c .loop .i < c .before .before .args .filled .count
-    → Here (c .before .before .args .work .now) (c .loop .at) (c .before .before .args .filled .count - (c .loop .i + 1))
+here : (c : tie.At-loop Inv-loop μ-loop) → c .loop .passed < c .before .before .args .filled .count
+    → Here (c .before .before .args .work .now) (c .loop .at) (c .before .before .args .filled .count - (c .loop .passed + 1))
 here c l = from-here _ _ (c .loop .inv .1) l
 
 this : (c : tie.After-shared-slice-known2 Inv-loop μ-loop)
     → Here (c .before .before .before .before .before .args .work .now) (c .before .before .before .loop .at)
-    (c .before .before .before .before .before .args .filled .count - (c .before .before .before .loop .i + 1))
+    (c .before .before .before .before .before .args .filled .count - (c .before .before .before .loop .passed + 1))
 this c =
     let l = c .before .before .before in
     here l (omega (arith, c .before .if1 .taken, l .before .before .pre .0 .ahead))
 
 last : (c : tie.Else1 Inv-loop μ-loop)
     → Here (c .before .before .before .before .args .work .now) (c .before .before .loop .at)
-    (c .before .before .before .before .args .filled .count - (c .before .before .loop .i + 1))
+    (c .before .before .before .before .args .filled .count - (c .before .before .loop .passed + 1))
 last c = let l = c .before .before in here l (omega (arith, l .loop .inv .0, l .before .before .pre .1))
 
 loop-holds : tie.Need-loop-holds Inv-loop μ-loop
@@ -63,8 +63,8 @@ add-at-2 : tie.Need-add-at-2 Inv-loop μ-loop
 add-at-2 c =
     omega (arith, this c)
 
-add-i : tie.Need-add-i Inv-loop μ-loop
-add-i c = search needs
+add-passed : tie.Need-add-passed Inv-loop μ-loop
+add-passed c = search needs
 
 loop-less : tie.Need-loop-less Inv-loop μ-loop
 loop-less c = search needs
@@ -96,7 +96,7 @@ returns c =
     let l = c .before .before .before .before in
     let b = l .before .before in
     let W = b .args .work .now in
-    let all : l .loop .i ≡ b .args .filled .front = omega (arith, c .before .before .if1 .left, l .loop .inv .0) in (
+    let all : l .loop .passed ≡ b .args .filled .front = omega (arith, c .before .before .if1 .left, l .loop .inv .0) in (
       questionOf desk (drop (l .loop .at) W),
       ap (λ (i : ℕ). head (drop i (membersFrom W firstAt (b .args .filled .count)))) (sym all)
           ∙ from-head _ _ (l .loop .inv .1) (omega (arith, all, b .pre .1)),
@@ -115,7 +115,7 @@ oldest-spec =
     mul-at
     add-at
     add-at-2
-    add-i
+    add-passed
     loop-less
     loop-again
     sub-copy-record
