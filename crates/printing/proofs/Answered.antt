@@ -1,0 +1,148 @@
+-- From what explore's run answers (`Answers`, over an output of 2,632 bytes) to what `print` asks, and to what is
+-- printed for the book. Assumes nothing.
+use mathlib.Core.Path.{_≡_, refl, sym, _∙_, ap, ap₂, subst}
+use mathlib.Core.Bool.{Bool, cond}
+use mathlib.Core.Logic.{_⊎_, inl, inr}
+use mathlib.Core.List.{List, [], _++_}
+use Prim.Native.Nat.{ℕ, zero, suc, _+_, _^_, _≤_, _<_}
+use native.Mathlib.Omega.{arith}
+use borrow.Author.Tests.{lt-ltb, le-ltb}
+use lib.Dec.{ltb}
+use lib.ListN.{length, drop, take-append-drop}
+use Rattle.cover.specs.Lists.{_∈_}
+use Rattle.cover.specs.Term.{Question}
+use Rattle.cover.specs.Record.{desk, Fits}
+use Rattle.book.specs.Word.{word}
+use Rattle.book.proofs.Earliest.{le-or-lt}
+use Rattle.exploration.specs.Answer.{Result, union, refusal, result, Answers}
+use Rattle.explore.specs.Held.{Standing}
+use Rattle.exploration.specs.Union.{outputSize, membersBytes, unionBytes, membersOf, exploredOf}
+use Rattle.exploration.proofs.FromBook.{allowed-few}
+use Rattle.exploration.proofs.OfBook.{members-most, explored-allowed, desk-fits}
+use Rattle.exploration.proofs.Written.{count-read, offset-read}
+use Rattle.explore.proofs.Stand.{members-stand}
+use Rattle.exploration.proofs.Refused.{refuses-exactly}
+use Rattle.exploration.proofs.Given.{Whole, all, kind, members-are, explored-is, the-bytes, same-length, refused-exactly}
+use Rattle.printing.specs.Printed.{printed}
+use Rattle.printing.specs.Put.{Puts}
+use Rattle.printing.specs.Answer.{resultIn, Stands, Printable, textSize, linesOf}
+use Rattle.printing.proofs.Putting.{put-none, put-as}
+use Rattle.printing.proofs.Longest.{union-most, refusal-most}
+
+members-there : (U : List Question) (n : ℕ) (R : List ℕ) → drop 8 (unionBytes U n ++ R) ≡ membersBytes U ++ R
+unfolding unionBytes
+members-there U n R = refl
+
+in-refusal : (n p : ℕ) (W : List ℕ) → 1 ≤ n → resultIn n p W ≡ refusal n p
+in-refusal zero p W h = absurd (omega arith)
+in-refusal (suc n) p W h = refl
+
+module _ (book : List ℕ) (room : ℕ) where
+  lines-are : linesOf book room ≡ cond (ltb room textSize) [] (printed (result book outputSize))
+  unfolding linesOf
+  lines-are = refl
+
+  lines-short : room < textSize → linesOf book room ≡ []
+  lines-short h =
+      lines-are ∙ ap (λ (b : Bool). cond b [] (printed (result book outputSize))) (lt-ltb room textSize h)
+
+  lines-long : textSize ≤ room → linesOf book room ≡ printed (result book outputSize)
+  lines-long h =
+      lines-are ∙ ap (λ (b : Bool). cond b [] (printed (result book outputSize))) (le-ltb room textSize h)
+
+module _ {book out : List ℕ} {number place : ℕ} {after : List ℕ} (given : Answers book out number place after)
+    (sized : length out ≡ outputSize) where
+  -- the output says the book's result
+  module _ (complete : number ≡ 0) where
+    abbrev w : Whole given
+    w = all given complete
+
+    are : membersOf after ≡ all given complete .members
+    are = members-are given complete
+
+    in-run : (M : Question) → M ∈ membersOf after → M ∈ all given complete .members
+    in-run M m = subst (λ (U : List Question). M ∈ U) are m
+
+    fits : (M : Question) → M ∈ membersOf after → Fits desk M
+    fits M m = desk-fits book (w .sound) (kind given complete M (in-run M m) .fits)
+
+    union-stands : Stands after
+    union-stands =
+        record {
+          header = omega (arith, same-length given, sized);
+          members =
+              subst (λ (i : ℕ). Standing after i (word after 0)) (sym first)
+              (subst (Standing after 8) (sym count) (members-stand after 8 U (drop place after) fits there));
+        }
+      where
+        U : List Question
+        U = membersOf after
+
+        bytes : after ≡ unionBytes U (exploredOf after) ++ drop place after
+        bytes =
+            sym (take-append-drop place after)
+            ∙ ap (λ (l : List ℕ). l ++ drop place after) (the-bytes given complete)
+
+        first : word after 4 ≡ 8
+        first = ap (λ (l : List ℕ). word l 4) bytes ∙ offset-read U (exploredOf after) (drop place after)
+
+        count : word after 0 ≡ length U
+        count = ap (λ (l : List ℕ). word l 0) bytes ∙ count-read U (exploredOf after) (drop place after)
+
+        there : drop 8 after ≡ membersBytes U ++ drop place after
+        there = ap (drop 8) bytes ∙ members-there U (exploredOf after) (drop place after)
+
+    union-says : union (membersOf after) (exploredOf after) ≡ result book outputSize
+    union-says = ap₂ union are (explored-is given complete) ∙ sym (w .is) ∙ ap (result book) sized
+
+    union-fits : length (printed (union (membersOf after) (exploredOf after))) ≤ textSize
+    union-fits =
+        union-most (membersOf after) (exploredOf after)
+        (omega (arith, ap length are, members-most book (w .sound) (w .ran)))
+        (omega (
+          arith,
+          explored-is given complete,
+          explored-allowed book (w .sound) (w .ran),
+          allowed-few book (w .sound),
+        ))
+        fits
+        (λ M m. kind given complete M (in-run M m) .fits .most)
+
+  module _ (one : 1 ≤ number) where
+    refusal-says : refusal number place ≡ result book outputSize
+    refusal-says =
+        sym (refuses-exactly book (length out) number place .1 (refused-exactly given number place one .0 (refl, refl)))
+        ∙ ap (result book) sized
+
+  -- the number, the place and the output say the book's result
+  pub result-told : resultIn number place after ≡ result book outputSize
+  result-told = go (le-or-lt 1 number)
+    where
+      go : (1 ≤ number) ⊎ (number < 1) → resultIn number place after ≡ result book outputSize
+      go (inl one) = in-refusal number place after one ∙ refusal-says one
+      go (inr none) =
+          let complete : number ≡ 0 = omega arith in
+          ap (λ (n : ℕ). resultIn n place after) complete ∙ union-says complete
+
+  -- what `print` asks, of a text with room for the longest
+  pub printable : number < 256 → place < 2 ^ 64 → (room : ℕ) → textSize ≤ room → Printable number place after room
+  printable small wide room roomy = record { stands = union-stands; fits = go (le-or-lt 1 number) }
+    where
+      go : (1 ≤ number) ⊎ (number < 1) → length (printed (resultIn number place after)) ≤ room
+      go (inl one) =
+          let long = refusal-most number place small wide in
+          omega (arith, ap (λ (r : Result). length (printed r)) (in-refusal number place after one))
+      go (inr none) =
+          let complete : number ≡ 0 = omega arith in
+          let long = union-fits complete in
+          omega (arith, ap (λ (n : ℕ). length (printed (resultIn n place after))) complete)
+
+  -- what `print` prints is what is printed for the book
+  pub answered : {text after-text : List ℕ} {end : ℕ} → textSize ≤ length text
+      → Puts (printed (resultIn number place after)) text 0 end after-text
+      → Puts (linesOf book (length text)) text 0 end after-text
+  answered {text} roomy p = put-as (lines-long book (length text) roomy ∙ ap printed (sym result-told)) p
+
+-- into a text that is too short nothing is printed
+pub unanswered : (book text : List ℕ) → length text < textSize → Puts (linesOf book (length text)) text 0 0 text
+unanswered book text short = put-as (lines-short book (length text) short) (put-none (omega arith))

@@ -1,0 +1,23 @@
+-- 01's printed book is printed as 01 says, by computation.
+use mathlib.Core.Path.{_≡_, refl}
+use mathlib.Core.List.{map}
+use Rattle.cover.specs.Search.{covers, firstMap, findMap}
+use Rattle.cover.specs.Form.{form}
+use Rattle.cover.specs.Record.{termOf, argsAt, atomAt, atomsAt, atomBytes, recordBytes}
+use Rattle.book.specs.Word.{word}
+use Rattle.book.specs.Book.{ruleAt, rulesFrom, after, bookOf}
+use Rattle.book.specs.Verdict.{inTable, offsetsRight, wrongPlaces, ruleRight, wrongRule, wrongPlace, wrongInAtom}
+use Rattle.book.specs.Verdict.{wrongInAtoms, wrongInRules, wrongByte, contents, verdict}
+use Rattle.unify.specs.Step.{step, listed, rewritings}
+use Rattle.exploration.specs.Run.{admit, through, exploring, runBy, run}
+use Rattle.exploration.specs.Answer.{result}
+use Rattle.printing.specs.Printed.{digits, decimal, termText, atomText, memberLine, line}
+use Rattle.printing.specs.Answer.{linesOf}
+use Rattle.printing.specs.Examples.{shown, examples}
+
+pub examples-hold : map shown examples ≡ examples
+unfolding examples covers firstMap findMap form step listed rewritings admit through exploring runBy run
+    termOf argsAt atomAt atomsAt atomBytes recordBytes word ruleAt rulesFrom after bookOf
+    inTable offsetsRight wrongPlaces ruleRight wrongRule wrongPlace wrongInAtom wrongInAtoms wrongInRules wrongByte
+    contents verdict result linesOf digits decimal termText atomText memberLine line
+examples-hold = refl

@@ -1,0 +1,58 @@
+-- Laws of what is printed for a number, a place and an output. Assumes nothing.
+use mathlib.Core.Path.{_≡_, refl, sym, _∙_, ap, ap₂, subst}
+use mathlib.Core.List.{List, _++_}
+use Prim.Native.Nat.{ℕ, zero, suc, _+_}
+use lib.ListN.{length, length-append}
+use Rattle.cover.specs.Lists.{gather}
+use Rattle.book.specs.Word.{word}
+use Rattle.exploration.specs.Union.{membersFrom, memberEnd, membersOf}
+use Rattle.explore.specs.Held.{Standing}
+use Rattle.printing.specs.Printed.{ascii, memberLine, line, printed}
+use Rattle.printing.specs.Answer.{resultIn, Stands}
+
+members-count : (W : List ℕ) (i n : ℕ) → length (membersFrom W i n) ≡ n
+unfolding membersFrom
+members-count W i zero = refl
+members-count W i (suc n) = ap suc (members-count W (memberEnd W i) n)
+
+-- the header's words that are read
+pub record Words (W : List ℕ) (m e f : ℕ) : Type 0 where
+  pub members : m ≡ word W 0
+  pub explored : e ≡ word W 2
+  pub first : f ≡ word W 4
+
+module _ (number place : ℕ) (W : List ℕ) where
+  pub refusal-text : (number ≡ 0 → ⊥)
+      → printed (resultIn number place W) ≡ line (ascii "refused ") number (ascii " at ") place
+  refusal-text h = go number h
+    where
+      go : (n : ℕ) → (n ≡ 0 → ⊥) → printed (resultIn n place W) ≡ line (ascii "refused ") n (ascii " at ") place
+      go zero h = absurd (h refl)
+      go (suc n) h = refl
+
+  module _ {m e f : ℕ} (h : Words W m e f) (complete : number ≡ 0) where
+    pub union-text : printed (resultIn number place W)
+        ≡ line (ascii "members ") m (ascii " explored ") e ++ gather memberLine (membersFrom W f m)
+    unfolding membersOf
+    union-text =
+        ap (λ (n : ℕ). printed (resultIn n place W)) complete
+        ∙ ap (λ (n : ℕ). line (ascii "members ") n (ascii " explored ") (word W 2) ++ lines) count
+        ∙ ap₂ (λ (n : ℕ) (l : List ℕ). line (ascii "members ") m (ascii " explored ") n ++ l) (sym (h .explored))
+        (ap₂ (λ (i n : ℕ). gather memberLine (membersFrom W i n)) (sym (h .first)) (sym (h .members)))
+      where
+        lines : List ℕ
+        lines = gather memberLine (membersFrom W (word W 4) (word W 0))
+
+        count : length (membersFrom W (word W 4) (word W 0)) ≡ m
+        count = members-count W (word W 4) (word W 0) ∙ sym (h .members)
+
+    pub union-length : length (printed (resultIn number place W))
+        ≡ length (line (ascii "members ") m (ascii " explored ") e) + length (gather memberLine (membersFrom W f m))
+    union-length =
+        ap length union-text
+        ∙ length-append (line (ascii "members ") m (ascii " explored ") e) (gather memberLine (membersFrom W f m))
+
+-- the members stand where the header says
+pub stands-there : {W : List ℕ} {m e f : ℕ} → Words W m e f → Stands W → Standing W f m
+stands-there {W} {m} h s =
+    subst (λ (i : ℕ). Standing W i m) (sym (h .first)) (subst (Standing W (word W 4)) (sym (h .members)) (s .members))

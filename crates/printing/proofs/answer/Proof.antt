@@ -1,0 +1,46 @@
+-- `printing::answer` meets its contract: the text is too short, or the book is run in an output of 2,632 bytes and its
+-- answer printed.
+use borrow.Author.Needs.{needs}
+use native.Mathlib.Omega.{arith}
+use mathlib.Core.Path.{refl}
+use Rattle.printing.proofs.Answered.{printable, answered, unanswered}
+use Rattle.printing.proofs.answer.Statement.{statement}
+use Rattle.printing.proofs.answer.Tie as tie
+
+returns : tie.Need-returns
+returns c = unanswered _ _ (c .if1 .taken)
+
+slice-aggregate-run : tie.Need-slice-aggregate-run
+slice-aggregate-run c = search needs
+
+run-requires : tie.Need-run-requires
+run-requires c κs = search needs
+
+slice-aggregate-print : tie.Need-slice-aggregate-print
+slice-aggregate-print c = search needs
+
+print-requires : tie.Need-print-requires
+print-requires c κs =
+    let r = c .before .before .before .run in
+    printable (r .ensures) refl (omega (arith, r .ok)) (omega (arith, r .ok)) _ (omega arith)
+
+same-length : tie.Need-same-length
+same-length c = search needs
+
+returns-2 : tie.Need-returns-2
+returns-2 c =
+    let printed = c .before .before in
+    let ran = printed .before .before .before .before in
+    answered (ran .run .ensures) refl (omega arith) (printed .print .ensures)
+
+pub answer-spec : {M : Type 1} → statement M
+answer-spec =
+    tie.close
+    (tie.spec
+    returns
+    slice-aggregate-run
+    run-requires
+    slice-aggregate-print
+    print-requires
+    same-length
+    returns-2)

@@ -1,0 +1,27 @@
+-- 01's printed book, and what is printed for it.
+use mathlib.Core.List.{List, [], _∷_}
+use Prim.Native.Nat.{ℕ}
+use Rattle.exploration.specs.Examples.{printed-book, printed-once, depth-two}
+use Rattle.printing.specs.Printed.{ascii}
+use Rattle.printing.specs.Answer.{linesOf, textSize}
+
+-- a book's bytes, and the text
+pub record Example : Type 0 where
+  pub book : List ℕ
+  pub text : List ℕ
+
+-- the same with the text that the definitions say
+abbrev pub shown : Example → Example
+shown e = record { book = e .book; text = linesOf (e .book) textSize }
+
+unfoldable pub examples : List Example
+examples =
+    -- "it prints"
+    record { book = printed-book .book; text = ascii "members 2 explored 2\nr1(v0) r2(v1,v0)\nr0(v0)\n" }
+    -- "With L = 1 it prints `refused 10 at 1`: number, then place."
+    ∷ record { book = printed-once .book; text = ascii "refused 10 at 1\n" }
+    -- "example 9's like at depth two"
+    ∷ record { book = depth-two .book; text = ascii "members 3 explored 3\nr2(v0,v1) r2(v1,v0)\nr1(v0)\nr0(v0)\n" }
+    -- "2 | book under 18 bytes"
+    ∷ record { book = []; text = ascii "refused 2 at 0\n" }
+    ∷ []

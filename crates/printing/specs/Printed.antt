@@ -1,0 +1,61 @@
+-- What is printed (01, "Examples from the bench"), as bytes. Every line ends with a newline.
+use mathlib.Core.Bool.{cond}
+use mathlib.Core.List.{List, [], _∷_, _++_}
+use Prim.Native.Nat.{ℕ, zero, suc, _+_, _/_, _%_}
+use Prim.Native.Char.{code}
+use Prim.Native.String.{String, [] as empty, _∷_ as _then_}
+use lib.Dec.{ltb}
+use lib.ListN.{length}
+use Rattle.cover.specs.Lists.{gather}
+use Rattle.cover.specs.Term.{Term, var, con, Atom, Question}
+use Rattle.exploration.specs.Answer.{Result, union, refusal}
+
+-- the bytes of a text, a byte for a character
+abbrev pub ascii : String → List ℕ
+ascii empty = []
+ascii (c then s) = code c ∷ ascii s
+
+-- a digit's byte
+abbrev pub digit : ℕ → ℕ
+digit n = 48 + n
+
+-- the decimal digits of a number, with no zero in front; the first argument bounds how many there are
+unfoldable pub digits : ℕ → ℕ → List ℕ
+digits zero n = digit n ∷ []
+digits (suc most) n = let more = digits most (n / 10) ++ digit (n % 10) ∷ [] in cond (ltb n 10) (digit n ∷ []) more
+
+-- (`proofs/Decimal`: their value is the number, and a number that is not 0 begins with 1 to 9)
+unfoldable pub decimal : ℕ → List ℕ
+decimal n = digits n n
+
+-- "v variable, c constant"
+unfoldable pub termText : Term → List ℕ
+termText (var n) = ascii "v" ++ decimal n
+termText (con c) = ascii "c" ++ decimal c
+
+-- things one after the other, each with a mark before it; with the mark between two of them
+module _ {A : Type 0} (mark : List ℕ) (shown : A → List ℕ) where
+  abbrev pub marked : List A → List ℕ
+  marked xs = gather (λ x. mark ++ shown x) xs
+
+  abbrev pub joined : List A → List ℕ
+  joined [] = []
+  joined (x ∷ xs) = shown x ++ marked xs
+
+-- "its atoms as relation number and terms"
+unfoldable pub atomText : Atom → List ℕ
+atomText a = ascii "r" ++ (decimal (a .rel) ++ (ascii "(" ++ (joined (ascii ",") termText (a .args) ++ ascii ")")))
+
+-- a member's line, its atoms with a space between two
+unfoldable pub memberLine : Question → List ℕ
+memberLine M = joined (ascii " ") atomText M ++ ascii "\n"
+
+-- a line of two numbers, each after its words
+unfoldable pub line : List ℕ → ℕ → List ℕ → ℕ → List ℕ
+line first m second n = first ++ (decimal m ++ (second ++ (decimal n ++ ascii "\n")))
+
+-- What is printed for a book's result: "The first line has members and explored; each other line is a member"; or
+-- "`refused 10 at 1`: number, then place".
+abbrev pub printed : Result → List ℕ
+printed (union U n) = line (ascii "members ") (length U) (ascii " explored ") n ++ gather memberLine U
+printed (refusal n p) = line (ascii "refused ") n (ascii " at ") p

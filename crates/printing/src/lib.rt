@@ -1,0 +1,64 @@
+// Printing: a book's answer, as lines of text.
+mod lines;
+mod put;
+
+ghost use mathlib.Core.Path.{_≡_};
+ghost use Prim.Native.Nat.{_+_, _≤_};
+ghost use lib.ListN.{length};
+ghost use Rattle.book.specs.Word.{word as wordAt};
+ghost use Rattle.printing.specs.Printed.{printed};
+ghost use Rattle.printing.specs.Answer.{resultIn, Printable, linesOf};
+ghost use Rattle.printing.specs.Put.{Puts};
+use lines::put_line;
+use lines::put_members;
+
+// The little-endian word at i.
+fn word(s: &[u8], i: usize) -> usize
+    requires { ⌜ i + 2 ≤ length (now s) ⌝ }
+    ensures { λ r. ⌜ r ≡ wordAt (now (s .entry)) i ⌝ }
+{
+    (s[i] as usize) + 256 * (s[i + 1] as usize)
+}
+
+// Prints what a number, a place and an output say to the front of the text, and answers where it ends.
+pub fn print(number: u8, place: usize, output: &[u8], text: &mut [u8]) -> usize
+    requires { ⌜ Printable number place (now output) (length (now text)) ⌝ }
+    ensures { λ r. ⌜ Puts
+        (printed (resultIn number place (now (output .entry))))
+        (now (text .entry))
+        0
+        r
+        (now (text .exit)) ⌝ }
+{
+    if number != 0 {
+        return put_line(text, 0, b"refused ", number as usize, b" at ", place);
+    }
+    let members = word(output, 0);
+    let explored = word(output, 2);
+    let first = word(output, 4);
+    let end = put_line(text, 0, b"members ", members, b" explored ", explored);
+    put_members(text, end, output, first, members)
+}
+
+// The bytes that the longest text needs, and more.
+pub const TEXT: usize = 16384;
+
+// Prints the answer to a book to the front of the text, and answers where it ends. A text that might be too short is
+// left as it is.
+pub fn answer(book: &[u8], text: &mut [u8]) -> usize
+    ensures { λ r. ⌜ Puts
+        (linesOf (now (book .entry)) (length (now (text .entry))))
+        (now (text .entry))
+        0
+        r
+        (now (text .exit)) ⌝ }
+{
+    if text.len() < TEXT {
+        return 0;
+    }
+    let mut output = [0u8; 2632];
+    let r = explore::run(book, &mut output);
+    let number = r.number;
+    let place = r.place;
+    print(number, place, &output, text)
+}
