@@ -20,3 +20,6 @@ pub mod Onward
 pub mod Running
 -- what the whole run shows at its returns
 pub mod Endings
+-- what it determines
+pub mod Determined
+pub mod Demanded
