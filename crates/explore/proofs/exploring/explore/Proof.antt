@@ -4,18 +4,22 @@ use borrow.Author.Needs.{needs}
 use native.Mathlib.Omega.{arith}
 use mathlib.Core.Path.{_≡_, refl, sym, ap, _∙_, subst}
 use mathlib.Core.Logic.{_⊎_, ⊎-elim}
+use mathlib.Core.Bool.{Bool}
 use mathlib.Core.List.{List}
 use Prim.Native.Nat.{ℕ, _+_, _-_, _≤_, _<_}
 use lib.ListN.{length, getD, drop}
+use Rattle.cover.specs.Lists.{_∈_}
 use Rattle.cover.specs.Term.{Question}
 use Rattle.cover.specs.Search.{covers}
 use Rattle.cover.specs.Record.{desk, questionOf, Sound}
 use Rattle.cover.proofs.Lists.{not-true, not-false}
+use Rattle.book.specs.Rule.{Rule}
 use Rattle.book.specs.Book.{bookOf}
 use Rattle.unify.specs.Held.{QuestionIn}
 use Rattle.explore.specs.declared.Extent.{Extent}
 use Rattle.explore.specs.declared.Fate.{Fate}
 use Rattle.explore.specs.declared.Fate.the-variants.{Dropped, Appended, Refused}
+use Rattle.exploration.specs.Run.{allRewritings}
 use Rattle.explore.specs.Held.{FateIs}
 use denote.Enum.Declared.{tagOf}
 use Rattle.explore.proofs.Fate.{the-type}
@@ -34,62 +38,74 @@ abbrev μ-loop : tie.MeasureT-loop
 μ-loop book starts member work₀ held₀ rule₀ from₀ work held rule from =
     length (coming (questionOf desk member) from (drop rule (bookOf book .rules)))
 
+-- points of the walk: where a turn begins, where the function began, the turn that has a rewriting
+abbrev turn : tie.Else1 Inv-loop μ-loop → tie.At-loop Inv-loop μ-loop
+turn e = e .before .before .before
+
+abbrev start : tie.At-loop Inv-loop μ-loop → tie.Start Inv-loop μ-loop
+start l = l .before .before .before .before .before
+
+abbrev having : tie.After-admit Inv-loop μ-loop → tie.Else1 Inv-loop μ-loop
+having x = x .before .before .before .before
+
+abbrev rules-of : tie.At-loop Inv-loop μ-loop → List Rule
+rules-of l = bookOf (start l .args .book .now) .rules
+
+abbrev member-of : tie.At-loop Inv-loop μ-loop → Question
+member-of l = questionOf desk (start l .args .member .now)
+
+abbrev record-of : tie.Else1 Inv-loop μ-loop → List ℕ
+record-of e = e .before .before .next-rewriting .result .rewriting
+
 -- the rewriting of this turn
-given : (c : tie.Else1 Inv-loop μ-loop)
-    → Given (questionOf desk (c .before .before .before .before .before .before .before .before .args .member .now))
-    (c .before .before .before .loop .rule)
-    (c .before .before .before .loop .from)
-    (bookOf (c .before .before .before .before .before .before .before .before .args .book .now) .rules)
-    (c .before .before .next-rewriting .result)
-given c = given-some _ _ _ _ _ (c .before .before .next-rewriting .ensures .0) (not-false _ (c .if1 .left))
+given : (e : tie.Else1 Inv-loop μ-loop)
+    → Given (member-of (turn e)) (turn e .loop .rule) (turn e .loop .from) (rules-of (turn e))
+    (e .before .before .next-rewriting .result)
+given e = given-some _ _ _ _ _ (e .before .before .next-rewriting .ensures .0) (not-false _ (e .if1 .left))
+
+listed : (e : tie.Else1 Inv-loop μ-loop) → given e .rewriting ∈ allRewritings (rules-of (turn e)) (member-of (turn e))
+listed e = rewriting-in _ _ _ _ (turn e .loop .inv) (given e)
 
 -- its record is sound, and its question is the rewriting
-sound : (c : tie.Else1 Inv-loop μ-loop) → Sound desk (c .before .before .next-rewriting .result .rewriting)
-sound c =
-    let b = c .before .before .before .before .before .before .before .before in
-    let B = b .args .book .now in
-    subst (Sound desk) (sym (given c .bytes))
-    (rewriting-sound B (b .pre .0) _ (b .pre .2 .fits) _ (rewriting-in _ _ _ _ (c .before .before .before .loop .inv) (given c)))
+sound : (e : tie.Else1 Inv-loop μ-loop) → Sound desk (record-of e)
+sound e =
+    let b = start (turn e) in
+    subst (Sound desk) (sym (given e .bytes))
+    (rewriting-sound (b .args .book .now) (b .pre .0) _ (b .pre .2 .fits) _ (listed e))
 
-length-is : (c : tie.Else1 Inv-loop μ-loop) → length (c .before .before .next-rewriting .result .rewriting) ≡ 56
-length-is c = search needs
+length-is : (e : tie.Else1 Inv-loop μ-loop) → length (record-of e) ≡ 56
+length-is e = search needs
 
-question : (c : tie.Else1 Inv-loop μ-loop)
-    → questionOf desk (c .before .before .next-rewriting .result .rewriting) ≡ given c .rewriting
-question c =
-    let b = c .before .before .before .before .before .before .before .before in
-    let B = b .args .book .now in
-    ap (questionOf desk) (given c .bytes)
-    ∙ rewriting-question B (b .pre .0) _ (b .pre .2 .fits) _
-    (rewriting-in _ _ _ _ (c .before .before .before .loop .inv) (given c))
+question : (e : tie.Else1 Inv-loop μ-loop) → questionOf desk (record-of e) ≡ given e .rewriting
+question e =
+    let b = start (turn e) in
+    ap (questionOf desk) (given e .bytes)
+    ∙ rewriting-question (b .args .book .now) (b .pre .0) _ (b .pre .2 .fits) _ (listed e)
+
+covers-is : (e : tie.Else1 Inv-loop μ-loop) (b : Bool) → b ≡ covers (questionOf desk (record-of e)) (member-of (turn e))
+    → covers (given e .rewriting) (member-of (turn e)) ≡ b
+covers-is e b h = ap (λ (Q : Question). covers Q (member-of (turn e))) (sym (question e)) ∙ sym h
+
+-- what became of it, and where it was appended
+abbrev Became : tie.After-admit Inv-loop μ-loop → Fate → Type 0
+Became x r =
+    FateIs (turn (having x) .loop .work) (turn (having x) .loop .held) (given (having x) .rewriting) (x .admit .last .0) r
+
+fate : (x : tie.After-admit Inv-loop μ-loop) → Became x (x .admit .result)
+fate x =
+    subst
+    (λ (P : Question).
+    FateIs (turn (having x) .loop .work) (turn (having x) .loop .held) P (x .admit .last .0) (x .admit .result))
+    (question (having x)) (x .admit .ensures)
+
+appended : (c : tie.After-known-told Inv-loop μ-loop) → Became (c .before .before .before .before .before) (Appended (c .before .fate .given .0 .0))
+appended c = subst (Became (c .before .before .before .before .before)) (c .before .fate .given .1) (fate (c .before .before .before .before .before))
 
 -- the arm that binds nothing
 is-dropped : (r : Fate) → tagOf the-type r ≡ 0 → r ≡ Dropped
 is-dropped Dropped t = refl
 is-dropped (Appended d) t = absurd (omega (arith, t))
 is-dropped (Refused n) t = absurd (omega (arith, t))
-
--- what became of it
-fate : (c : tie.After-admit Inv-loop μ-loop)
-    → FateIs (c .before .before .before .before .before .before .before .loop .work)
-    (c .before .before .before .before .before .before .before .loop .held)
-    (given (c .before .before .before .before) .rewriting)
-    (c .admit .last .0)
-    (c .admit .result)
-fate c =
-    subst
-    (λ (P : Question).
-    FateIs (c .before .before .before .before .before .before .before .loop .work)
-    (c .before .before .before .before .before .before .before .loop .held) P (c .admit .last .0) (c .admit .result))
-    (question (c .before .before .before .before)) (c .admit .ensures)
-
-appended : (c : tie.After-known-told Inv-loop μ-loop)
-    → FateIs (c .before .before .before .before .before .before .before .before .before .before .before .before .loop .work) (c .before .before .before .before .before .before .before .before .before .before .before .before .loop .held) (given (c .before .before .before .before .before .before .before .before .before) .rewriting) (c .before .before .before .before .before .admit .last .0)
-    (Appended (c .before .fate .given .0 .0))
-appended c =
-    subst
-    (FateIs (c .before .before .before .before .before .before .before .before .before .before .before .before .loop .work) (c .before .before .before .before .before .before .before .before .before .before .before .before .loop .held) (given (c .before .before .before .before .before .before .before .before .before) .rewriting) (c .before .before .before .before .before .admit .last .0))
-    (c .before .fate .given .1) (fate (c .before .before .before .before .before))
 
 loop-holds : tie.Need-loop-holds Inv-loop μ-loop
 loop-holds c =
@@ -98,7 +114,7 @@ loop-holds c =
 
 next-rewriting-requires : tie.Need-next-rewriting-requires Inv-loop μ-loop
 next-rewriting-requires c κs =
-    let b = c .before .before .before .before .before in
+    let b = start c in
     let M = b .pre .2 in (
       b .pre .0,
       b .pre .1,
@@ -107,7 +123,8 @@ next-rewriting-requires c κs =
 
 same-length : tie.Need-same-length Inv-loop μ-loop
 same-length c =
-    c .before .before .before .loop .inv .working .held .size ∙ sym (c .before .before .before .before .before .before .before .before .pre .3 .held .size)
+    let l = c .before .before .before in
+    l .loop .inv .working .held .size ∙ sym (start l .pre .3 .held .size)
 
 returns : tie.Need-returns Inv-loop μ-loop
 returns c =
@@ -115,82 +132,73 @@ returns c =
     (given-none _ _ _ _ _ (c .before .before .next-rewriting .ensures .0) (not-true _ (c .if1 .taken)))
 
 slice-aggregate-admit : tie.Need-slice-aggregate-admit Inv-loop μ-loop
-slice-aggregate-admit c =
-    search needs
+slice-aggregate-admit c = search needs
 
 admit-requires : tie.Need-admit-requires Inv-loop μ-loop
-admit-requires c κs =
-    (c .before .before .before .before .before .before .loop .inv .working, sound (c .before .before .before))
+admit-requires c κs = let e = c .before .before .before in (turn e .loop .inv .working, sound e)
 
 enum-told : tie.Need-enum-told Inv-loop μ-loop
-enum-told c =
-    search needs
+enum-told c = search needs
 
 enum-known-fate : tie.Need-enum-known-fate Inv-loop μ-loop
-enum-known-fate c =
-    search needs
+enum-known-fate c = search needs
 
 slice-aggregate-covers-sound : tie.Need-slice-aggregate-covers-sound Inv-loop μ-loop
-slice-aggregate-covers-sound c =
-    sym (length-is (c .before .before .before .before .before .before .before .before .before .before))
+slice-aggregate-covers-sound c = sym (length-is (having (c .before .before .before .before .before .before)))
 
 covers-sound-requires : tie.Need-covers-sound-requires Inv-loop μ-loop
 covers-sound-requires c κs =
-    let b = c .before .before .before .before .before .before .before .before .before .before .before .before .before .before .before .before .before .before in (
-      sound (c .before .before .before .before .before .before .before .before .before .before),
+    let e = having (c .before .before .before .before .before .before) in
+    let b = start (turn e) in (
+      sound e,
       subst (Sound desk) (sym (b .pre .2 .holds)) (member-sound (b .args .book .now) (b .pre .0) _ (b .pre .2 .fits)),
     )
 
 same-length-2 : tie.Need-same-length-2 Inv-loop μ-loop
 same-length-2 c =
-    appended (c .before .before .before) .1 .held .size ∙ sym (c .before .before .before .before .before .before .before .before .before .before .before .before .before .before .before .before .before .before .before .before .pre .3 .held .size)
+    let b = start (turn (having (c .before .before .before .before .before .before .before .before))) in
+    appended (c .before .before .before) .1 .held .size ∙ sym (b .pre .3 .held .size)
 
 returns-2 : tie.Need-returns-2 Inv-loop μ-loop
 returns-2 c =
-    let e = c .before .before .before .before .before .before .before .before .before .before .before .before in
-    onward-stopped _ _ _ _ (c .before .before .before .before .before .before .before .before .before .before .before .before .before .before .before .loop .inv) (given e) _ _ (appended (c .before .before .before))
-    (ap (λ (Q : Question). covers Q (questionOf desk (c .before .before .before .before .before .before .before .before .before .before .before .before .before .before .before .before .before .before .before .before .args .member .now))) (sym (question e))
-    ∙ sym (c .before .covers-sound .ensures)
-    ∙ c .if2 .taken)
+    let e = having (c .before .before .before .before .before .before .before .before) in
+    onward-stopped _ _ _ _ (turn e .loop .inv) (given e) _ _ (appended (c .before .before .before))
+    (covers-is e _ (c .before .covers-sound .ensures) ∙ c .if2 .taken)
 
 enum-known-fate-2 : tie.Need-enum-known-fate-2 Inv-loop μ-loop
-enum-known-fate-2 c =
-    search needs
+enum-known-fate-2 c = search needs
 
 same-length-3 : tie.Need-same-length-3 Inv-loop μ-loop
-same-length-3 c =
-    search needs
+same-length-3 c = search needs
 
 returns-3 : tie.Need-returns-3 Inv-loop μ-loop
 returns-3 c =
-    onward-refused _ _ _ _ (c .before .before .before .before .before .before .before .before .before .before .before .before .loop .inv) (given (c .before .before .before .before .before .before .before .before .before)) _
-    (subst (FateIs _ _ _ _) (c .before .fate2 .given .1) (fate (c .before .before .before .before .before)))
+    let x = c .before .before .before .before .before in
+    onward-refused _ _ _ _ (turn (having x) .loop .inv) (given (having x)) _
+    (subst (Became x) (c .before .fate2 .given .1) (fate x))
 
 add-from : tie.Need-add-from Inv-loop μ-loop
-add-from c =
-    omega (arith, c .before .before .before .before .before .before .before .before .before .before .next-rewriting .ensures .1)
+add-from c = omega (arith, having (c .before .before .before .before) .before .before .next-rewriting .ensures .1)
 
 loop-less : tie.Need-loop-less Inv-loop μ-loop
-loop-less c =
-    fewer _ _ _ _ (c .before .before .before .before .before .before .before .before .before .before .before .loop .inv) (given (c .before .before .before .before .before .before .before .before))
+loop-less c = let e = having (c .before .before .before .before) in fewer _ _ _ _ (turn e .loop .inv) (given e)
 
 loop-again : tie.Need-loop-again Inv-loop μ-loop
 loop-again c =
-    let e = c .before .before .before .before .before .before .before .before in
-    let l = c .before .before .before .before .before .before .before .before .before .before .before in
-    let f = fate (c .before .before .before .before) in
+    let x = c .before .before .before .before in
+    let e = having x in
+    let o = turn e .loop .inv in
+    let m = c .before .before in
     ⊎-elim
     (λ w.
     onward-as _ _ _ _ (w .2)
-    (onward-dropped _ _ _ _ (l .loop .inv) (given e) _
-    (subst (FateIs (l .loop .work) (l .loop .held) (given e .rewriting) (c .before .before .before .before .admit .last .0))
-    (is-dropped (c .before .before .before .before .admit .result) (enum-told (record { before = c .before .before; match = w .0 }))) f)))
+    (onward-dropped _ _ _ _ o (given e) _
+    (subst (Became x) (is-dropped (x .admit .result) (enum-told (record { before = m; match = w .0 }))) (fate x))))
     (λ w.
+    let k : tie.After-known-told Inv-loop μ-loop =
+    record { before = record { before = record { before = m; match = w .0 }; fate = w .1 }; known-told = w .2 } in
     onward-as _ _ _ _ (w .6)
-    (onward-appended _ _ _ _ (l .loop .inv) (given e) _ _ (appended (record { before = record { before = record { before = c .before .before; match = w .0 }; fate = w .1 }; known-told = w .2 }))
-    (ap (λ (Q : Question). covers Q (questionOf desk (c .before .before .before .before .before .before .before .before .before .before .before .before .before .before .before .before .args .member .now))) (sym (question e))
-    ∙ sym (w .4 .ensures)
-    ∙ w .5 .left)))
+    (onward-appended _ _ _ _ o (given e) _ _ (appended k) (covers-is e _ (w .4 .ensures) ∙ w .5 .left)))
     (c .before .match .came)
 
 pub explore-spec : {M : Type 1} → statement M

@@ -20,21 +20,30 @@ Inv-loop book work₀ allowed starts len filled₀ taken₀ work filled taken = 
 abbrev μ-loop : tie.MeasureT-loop
 μ-loop book work₀ allowed starts len filled₀ taken₀ work filled taken = allowed - taken
 
+-- points of the walk: where a turn begins, where the function began, and the turn whose member is explored
+abbrev turn : tie.Else2 Inv-loop μ-loop → tie.At-loop Inv-loop μ-loop
+turn e = e .before .before .before
+
+abbrev start : tie.At-loop Inv-loop μ-loop → tie.Start Inv-loop μ-loop
+start l = l .before .before .before .before .before .before .before .before .before .before .before
+
+abbrev book-of : tie.At-loop Inv-loop μ-loop → List ℕ
+book-of l = start l .args .book .now
+
+abbrev taking-up : tie.After-explore Inv-loop μ-loop → tie.Else2 Inv-loop μ-loop
+taking-up x = x .before .before .before .before .before .before .before
+
 read-requires : tie.Need-read-requires Inv-loop μ-loop
-read-requires c κs =
-    sound-long _ (c .before .before .pre .0)
+read-requires c κs = sound-long _ (c .before .before .pre .0)
 
 starts-requires : tie.Need-starts-requires Inv-loop μ-loop
-starts-requires c κs =
-    c .before .before .before .pre .0
+starts-requires c κs = c .before .before .before .pre .0
 
 first-member-requires : tie.Need-first-member-requires Inv-loop μ-loop
-first-member-requires c κs =
-    c .before .before .before .before .pre .0
+first-member-requires c κs = c .before .before .before .before .pre .0
 
 slice-aggregate-append : tie.Need-slice-aggregate-append Inv-loop μ-loop
-slice-aggregate-append c =
-    search needs
+slice-aggregate-append c = search needs
 
 append-requires : tie.Need-append-requires Inv-loop μ-loop
 append-requires c κs =
@@ -48,102 +57,95 @@ loop-holds : tie.Need-loop-holds Inv-loop μ-loop
 loop-holds c =
     let b = c .before .before .before .before .before .before .before .before .before .before in
     let put = c .before .before .append .ensures in
-    first-running (b .args .book .now) (b .pre .0) (b .args .work .now) (b .pre .1) _ (c .before .before .before .before .before .first-member .ensures) _ _
-    (put .0) (put .1)
+    first-running (b .args .book .now) (b .pre .0) (b .args .work .now) (b .pre .1) _
+    (c .before .before .before .before .before .first-member .ensures) _ _ (put .0) (put .1)
+
+-- the array keeps its size
+sized : (l : tie.At-loop Inv-loop μ-loop) → length (l .loop .work) ≡ length (start l .args .work .now)
+sized l = l .loop .inv .working .held .size ∙ sym (start l .pre .1)
 
 same-length : tie.Need-same-length Inv-loop μ-loop
-same-length c =
-    c .before .before .before .loop .inv .working .held .size ∙ sym (c .before .before .before .before .before .before .before .before .before .before .before .before .before .before .pre .1)
+same-length c = sized (c .before .before .before)
+
+-- the explorations allowed, as they were read
+allowed-is : (l : tie.At-loop Inv-loop μ-loop) → l .before .before .before .before .before .before .before .before .read .result .allowed ≡ bookOf (book-of l) .allowed
+allowed-is l = allowed-read (book-of l) _ (l .before .before .before .before .before .before .before .before .read .ensures)
 
 returns : tie.Need-returns Inv-loop μ-loop
 returns c =
-    let B = c .before .before .before .before .before .before .before .before .before .before .before .before .before .before .args .book .now in
-    outcome-ten B (c .before .before .before .loop .inv) (c .before .if1 .taken) (c .if2 .taken ∙ allowed-read B _ (c .before .before .before .before .before .before .before .before .before .before .before .read .ensures))
+    let l = c .before .before .before in
+    outcome-ten (book-of l) (l .loop .inv) (c .before .if1 .taken) (c .if2 .taken ∙ allowed-is l)
 
 -- there are explorations left
-more : (c : tie.Else2 Inv-loop μ-loop) → c .before .before .before .loop .taken < bookOf (c .before .before .before .before .before .before .before .before .before .before .before .before .before .before .args .book .now) .allowed
-more c =
-    let B = c .before .before .before .before .before .before .before .before .before .before .before .before .before .before .args .book .now in
-    omega (arith, c .if2 .left, c .before .before .before .loop .inv .few, allowed-read B _ (c .before .before .before .before .before .before .before .before .before .before .before .read .ensures))
+more : (e : tie.Else2 Inv-loop μ-loop) → turn e .loop .taken < bookOf (book-of (turn e)) .allowed
+more e = omega (arith, e .if2 .left, turn e .loop .inv .few, allowed-is (turn e))
 
 oldest-requires : tie.Need-oldest-requires Inv-loop μ-loop
-oldest-requires c κs =
-    (c .before .before .before .before .loop .inv .working, c .before .before .if1 .taken)
+oldest-requires c κs = (turn (c .before) .loop .inv .working, c .before .before .if1 .taken)
 
 add-taken : tie.Need-add-taken Inv-loop μ-loop
 add-taken c =
-    let b = c .before .before .before .before .before .before .before .before .before .before .before .before .before .before .before .before in
-    omega (arith, c .before .before .before .before .before .loop .inv .few, allowed-few (b .args .book .now) (b .pre .0))
+    let l = turn (c .before .before) in
+    omega (arith, l .loop .inv .few, allowed-few (book-of l) (start l .pre .0))
 
 add-filled : tie.Need-add-filled Inv-loop μ-loop
-add-filled c =
-    omega (arith, c .before .before .before .before .if1 .taken, c .before .before .before .before .before .before .loop .inv .working .few)
+add-filled c = let e = c .before .before .before in omega (arith, e .before .if1 .taken, turn e .loop .inv .working .few)
 
 slice-aggregate-explore : tie.Need-slice-aggregate-explore Inv-loop μ-loop
-slice-aggregate-explore c =
-    search needs
+slice-aggregate-explore c = search needs
 
 slice-aggregate-explore-2 : tie.Need-slice-aggregate-explore-2 Inv-loop μ-loop
-slice-aggregate-explore-2 c =
-    search needs
+slice-aggregate-explore-2 c = search needs
 
 explore-requires : tie.Need-explore-requires Inv-loop μ-loop
 explore-requires c κs =
-    let b = c .before .before .before .before .before .before .before .before .before .before .before .before .before .before .before .before .before .before .before .before in
-    let B = b .args .book .now in
+    let e = c .before .before .before .before .before .before in
+    let l = turn e in
+    let s = start l .pre .0 in
     let old = c .before .before .before .before .oldest .ensures in (
-      b .pre .0,
-      c .before .before .before .before .before .before .before .before .before .before .before .before .before .before .before .before .starts .ensures,
-      member-of B (c .before .before .before .before .before .before .before .before .before .loop .inv) (c .before .before .before .before .before .before .before .if1 .taken) (more (c .before .before .before .before .before .before)) (b .pre .0) (old .0) (old .1) _ (old .2),
-      taken-working B (c .before .before .before .before .before .before .before .before .before .loop .inv) (c .before .before .before .before .before .before .before .if1 .taken) (more (c .before .before .before .before .before .before)),
+      s,
+      l .before .before .before .before .before .before .before .starts .ensures,
+      member-of (book-of l) (l .loop .inv) (e .before .if1 .taken) (more e) s (old .0) (old .1) _ (old .2),
+      taken-working (book-of l) (l .loop .inv) (e .before .if1 .taken) (more e),
     )
 
 enum-known-explored : tie.Need-enum-known-explored Inv-loop μ-loop
-enum-known-explored c =
-    search needs
+enum-known-explored c = search needs
 
 loop-less : tie.Need-loop-less Inv-loop μ-loop
-loop-less c =
-    let b = c .before .before .before .before .before .before .before .before .before .before .before .before .before .before .before .before .before .before .before .before .before .before .before .before .before .before in
-    omega (arith, more (c .before .before .before .before .before .before .before .before .before .before .before .before), allowed-read (b .args .book .now) _ (c .before .before .before .before .before .before .before .before .before .before .before .before .before .before .before .before .before .before .before .before .before .before .before .read .ensures))
+loop-less c = let e = taking-up (c .before .before .before .before .before) in omega (arith, more e, allowed-is (turn e))
 
 loop-again : tie.Need-loop-again Inv-loop μ-loop
 loop-again c =
-    let b = c .before .before .before .before .before .before .before .before .before .before .before .before .before .before .before .before .before .before .before .before .before .before .before .before .before .before in
-    let B = b .args .book .now in
-    let old = c .before .before .before .before .before .before .before .before .before .before .oldest .ensures in
-    let h = c .before .before .before .before .before .before .before .before .before .before .before .before .before .if1 .taken in
-    running-next B (c .before .before .before .before .before .before .before .before .before .before .before .before .before .before .before .loop .inv) h (more (c .before .before .before .before .before .before .before .before .before .before .before .before)) (b .pre .0) (old .0) (old .1) _ (old .2)
-    (c .before .before .before .before .before .explore .last .1 .1 .1 .0) (c .before .before .before .before .before .explore .result) (c .before .before .before .before .before .explore .ensures) _
-    (c .before .explored .given .1)
+    let x = c .before .before .before .before .before in
+    let e = taking-up x in
+    let l = turn e in
+    let old = x .before .before .before .before .before .oldest .ensures in
+    running-next (book-of l) (l .loop .inv) (e .before .if1 .taken) (more e) (start l .pre .0) (old .0) (old .1) _ (old .2)
+    (x .explore .last .1 .1 .1 .0) (x .explore .result) (x .explore .ensures) _ (c .before .explored .given .1)
 
 enum-known-explored-2 : tie.Need-enum-known-explored-2 Inv-loop μ-loop
-enum-known-explored-2 c =
-    search needs
+enum-known-explored-2 c = search needs
 
 same-length-2 : tie.Need-same-length-2 Inv-loop μ-loop
-same-length-2 c =
-    c .before .before .before .before .work2 .given ∙ c .before .before .before .before .before .before .before .before .before .before .before .before .before .before .before .loop .inv .working .held .size ∙ sym (c .before .before .before .before .before .before .before .before .before .before .before .before .before .before .before .before .before .before .before .before .before .before .before .before .before .before .pre .1)
+same-length-2 c = c .before .before .before .before .work2 .given ∙ sized (turn (taking-up (c .before .before .before .before .before)))
 
 returns-2 : tie.Need-returns-2 Inv-loop μ-loop
 returns-2 c =
-    let b = c .before .before .before .before .before .before .before .before .before .before .before .before .before .before .before .before .before .before .before .before .before .before .before .before .before .before in
-    let B = b .args .book .now in
-    let old = c .before .before .before .before .before .before .before .before .before .before .oldest .ensures in
-    let h = c .before .before .before .before .before .before .before .before .before .before .before .before .before .if1 .taken in
-    outcome-refused B (c .before .before .before .before .before .before .before .before .before .before .before .before .before .before .before .loop .inv) h (more (c .before .before .before .before .before .before .before .before .before .before .before .before)) (b .pre .0) (old .0) (old .1) _ (old .2)
-    (c .before .before .before .before .before .explore .last .1 .1 .1 .0) (c .before .before .before .before .before .explore .result) (c .before .before .before .before .before .explore .ensures) _
-    (c .before .explored2 .given .1)
+    let x = c .before .before .before .before .before in
+    let e = taking-up x in
+    let l = turn e in
+    let old = x .before .before .before .before .before .oldest .ensures in
+    outcome-refused (book-of l) (l .loop .inv) (e .before .if1 .taken) (more e) (start l .pre .0) (old .0) (old .1) _
+    (old .2) (x .explore .last .1 .1 .1 .0) (x .explore .result) (x .explore .ensures) _ (c .before .explored2 .given .1)
 
 same-length-3 : tie.Need-same-length-3 Inv-loop μ-loop
-same-length-3 c =
-    c .before .before .loop .inv .working .held .size ∙ sym (c .before .before .before .before .before .before .before .before .before .before .before .before .before .pre .1)
+same-length-3 c = sized (c .before .before)
 
 returns-3 : tie.Need-returns-3 Inv-loop μ-loop
 returns-3 c =
-    let b = c .before .before .before .before .before .before .before .before .before .before .before .before .before in
-    let B = b .args .book .now in
-    outcome-complete B (c .before .before .loop .inv) (allowed-few B (b .pre .0)) (c .if1 .left)
+    let l = c .before .before in
+    outcome-complete (book-of l) (l .loop .inv) (allowed-few (book-of l) (start l .pre .0)) (c .if1 .left)
 
 pub explore-all-spec : {M : Type 1} → statement M
 explore-all-spec =
