@@ -13,8 +13,8 @@ use lib.Dec.{T}
 use Rattle.cover.specs.Term.{Question}
 use Rattle.cover.proofs.Lists.{decide, T→true, T→false}
 use Rattle.exploration.specs.Run.{Test, Limits, State, Why, none-left, Admission, stopped, Pass, passed, failed}
-use Rattle.exploration.specs.Run.{Outcome, refused, onPass, oldest, takenUp, start, appended, admit, through}
-use Rattle.exploration.specs.Run.{exploring, runBy}
+use Rattle.exploration.specs.Run.{Outcome, refused, onPass, oldest, takenUp, start, covered, appended}
+use Rattle.exploration.specs.Run.{admit, through, exploring, runBy}
 use Rattle.exploration.specs.Steps.{Position, between, within, Admitted, Reaches, begins, takes-up, drops, appends}
 use Rattle.exploration.specs.Steps.{stops, finishes, Ends, completes, eight, nine, ten}
 use Rattle.exploration.proofs.Admits.{Admits, was-covered, was-long, was-full, was-admitted, admits, admit-is}
@@ -35,6 +35,18 @@ module _ (cov : Test) (lim : Limits) (steps : Question → List Question) (allow
   abbrev Finally : Outcome → Type 0
   Finally o = Ends cov lim steps allowed Q o
 
+  -- one turn, by what is known of the rewriting
+  module _ (M P : Question) (Ps : List Question) (s : State) where
+    dropped-turn : T (covered cov P (s .members)) → through cov lim M (P ∷ Ps) s ≡ through cov lim M Ps s
+    dropped-turn t = turn-dropped cov lim M P Ps s (admit-is cov lim (was-covered t))
+
+    appended-turn : Admitted cov lim s P → T (not (cov P M))
+        → through cov lim M (P ∷ Ps) s ≡ through cov lim M Ps (appended cov s P)
+    appended-turn a t = turn-appended cov lim M P Ps s (admit-is cov lim (was-admitted a)) (T→false (cov P M) t)
+
+    stopped-turn : Admitted cov lim s P → T (cov P M) → through cov lim M (P ∷ Ps) s ≡ passed (appended cov s P)
+    stopped-turn a t = turn-stopped cov lim M P Ps s (admit-is cov lim (was-admitted a)) (T→true (cov P M) t)
+
   -- The exploration of one member ends in a refusal, or comes to the position after it.
   through-ends : (M : Question) (Ps : List Question) (s : State) (n : ℕ) (next : State → Outcome)
       → ((t : State) → Comes (between t n) → Finally (next t)) → Comes (within M Ps s n)
@@ -53,12 +65,12 @@ module _ (cov : Test) (lim : Limits) (steps : Question → List Question) (allow
 
       added : Admitted cov lim s P → T (cov P M) ⊎ T (not (cov P M)) → Rest → Passes (through cov lim M (P ∷ Ps) s)
       added a (inl t) rest =
-          subst Passes (sym (turn-stopped cov lim M P Ps s (admit-is cov lim (was-admitted a)) (T→true (cov P M) t))) (then (appended cov s P) (stops c a t))
+          subst Passes (sym (stopped-turn M P Ps s a t)) (then (appended cov s P) (stops c a t))
       added a (inr t) rest =
-          subst Passes (sym (turn-appended cov lim M P Ps s (admit-is cov lim (was-admitted a)) (T→false (cov P M) t))) (rest (appended cov s P) (appends c a t))
+          subst Passes (sym (appended-turn M P Ps s a t)) (rest (appended cov s P) (appends c a t))
 
       go : {a : Admission} → Admits cov lim s P a → Rest → Passes (through cov lim M (P ∷ Ps) s)
-      go (was-covered t) rest = subst Passes (sym (turn-dropped cov lim M P Ps s (admit-is cov lim (was-covered t)))) (rest s (drops c t))
+      go (was-covered t) rest = subst Passes (sym (dropped-turn M P Ps s t)) (rest s (drops c t))
       go (was-long u l) rest = subst Passes (sym (turn-refused cov lim M P Ps s (admit-is cov lim (was-long u l)))) (eight c u l)
       go (was-full m l) rest = subst Passes (sym (turn-refused cov lim M P Ps s (admit-is cov lim (was-full m l)))) (nine c m l)
       go (was-admitted m) rest = added m (decide (cov P M)) rest
@@ -78,17 +90,17 @@ module _ (cov : Test) (lim : Limits) (steps : Question → List Question) (allow
       added a (inl u) rest =
           subst (λ (x : State). Comes (between x n))
           (passed-injective
-          (sym (turn-stopped cov lim M P Ps s (admit-is cov lim (was-admitted a)) (T→true (cov P M) u)) ∙ e))
+          (sym (stopped-turn M P Ps s a u) ∙ e))
           (stops c a u)
       added a (inr u) rest =
           rest (appended cov s P) (appends c a u)
-          (sym (turn-appended cov lim M P Ps s (admit-is cov lim (was-admitted a)) (T→false (cov P M) u)) ∙ e)
+          (sym (appended-turn M P Ps s a u) ∙ e)
 
       refuses : {w : Why} → admit cov lim s P ≡ stopped w → Comes (between t n)
       refuses h = absurd (failed≢passed (sym (turn-refused cov lim M P Ps s h) ∙ e))
 
       go : {a : Admission} → Admits cov lim s P a → Rest → Comes (between t n)
-      go (was-covered u) rest = rest s (drops c u) (sym (turn-dropped cov lim M P Ps s (admit-is cov lim (was-covered u))) ∙ e)
+      go (was-covered u) rest = rest s (drops c u) (sym (dropped-turn M P Ps s u) ∙ e)
       go (was-long u l) rest = refuses (admit-is cov lim (was-long u l))
       go (was-full m l) rest = refuses (admit-is cov lim (was-full m l))
       go (was-admitted m) rest = added m (decide (cov P M)) rest
@@ -139,11 +151,11 @@ module _ (cov : Test) (lim : Limits) (steps : Question → List Question) (allow
       (ap (λ (k : ℕ). exploring cov lim steps k n s) one ∙ turn-explores cov lim steps n s e (allowed - suc n))
       ∙ rest-runs c
   rest-runs (drops {M} {P} {Ps} {s} {n} c t) =
-      sym (ap (on-pass n) (turn-dropped cov lim M P Ps s (admit-is cov lim (was-covered t)))) ∙ rest-runs c
+      sym (ap (on-pass n) (dropped-turn M P Ps s t)) ∙ rest-runs c
   rest-runs (appends {M} {P} {Ps} {s} {n} c a t) =
-      sym (ap (on-pass n) (turn-appended cov lim M P Ps s (admit-is cov lim (was-admitted a)) (T→false (cov P M) t))) ∙ rest-runs c
+      sym (ap (on-pass n) (appended-turn M P Ps s a t)) ∙ rest-runs c
   rest-runs (stops {M} {P} {Ps} {s} {n} c a t) =
-      sym (ap (on-pass n) (turn-stopped cov lim M P Ps s (admit-is cov lim (was-admitted a)) (T→true (cov P M) t))) ∙ rest-runs c
+      sym (ap (on-pass n) (stopped-turn M P Ps s a t)) ∙ rest-runs c
   rest-runs (finishes {M} {s} {n} c) = sym (ap (on-pass n) (through-none cov lim M s)) ∙ rest-runs c
 
   pub ends-only : {o : Outcome} → Ends cov lim steps allowed Q o → runBy cov lim steps allowed Q ≡ o

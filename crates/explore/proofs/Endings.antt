@@ -34,7 +34,8 @@ module _ (book out : List ℕ) (roomy : outputSize ≤ length out) (sound : Soun
         → after ≡ take (f .len) Y ++ drop (f .len) out → Answers book out 0 (f .len) after
     returns-complete Y after filled copied =
         subst (λ (a : List ℕ). Answers book out 0 (f .len) a) (sym written-is)
-        (subst (λ (l : ℕ). Answers book out 0 l (unionBytes U n ++ drop l out)) (sym ends) (returns-union book out roomy sound (x .0)))
+        (subst (λ (l : ℕ). Answers book out 0 l (unionBytes U n ++ drop l out)) (sym ends)
+        (returns-union book out roomy sound (x .0)))
       where
         header : Y ≡ headerBytes U n ++ drop firstAt X
         header =

@@ -153,7 +153,9 @@ module _ (B : List ℕ) where
 
     pub outcome-complete : bookOf B .allowed ≤ 1000 → f .count ≤ f .front → RanIs (outcomeOf B) X (Complete f taken)
     outcome-complete most h = (
-      r .outcome ∙ turn-complete covers limits steps taken s (allowed - taken) (head-none (f .front) (s .members) (omega (arith, all-members))),
+      r .outcome
+          ∙ turn-complete covers limits steps taken s (allowed - taken)
+          (head-none (f .front) (s .members) (omega (arith, all-members))),
       r .working,
       omega (arith, r .few, most),
     )

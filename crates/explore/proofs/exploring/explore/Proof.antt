@@ -98,8 +98,9 @@ fate x =
     FateIs (turn (having x) .loop .work) (turn (having x) .loop .held) P (x .admit .last .0) (x .admit .result))
     (question (having x)) (x .admit .ensures)
 
-appended : (c : tie.After-known-told Inv-loop μ-loop) → Became (c .before .before .before .before .before) (Appended (c .before .fate .given .0 .0))
-appended c = subst (Became (c .before .before .before .before .before)) (c .before .fate .given .1) (fate (c .before .before .before .before .before))
+appended : (c : tie.After-known-told Inv-loop μ-loop)
+    → Became (c .before .before .before .before .before) (Appended (c .before .fate .given .0 .0))
+appended c = let x = c .before .before .before .before .before in subst (Became x) (c .before .fate .given .1) (fate x)
 
 -- the arm that binds nothing
 is-dropped : (r : Fate) → tagOf the-type r ≡ 0 → r ≡ Dropped

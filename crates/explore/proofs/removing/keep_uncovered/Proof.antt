@@ -27,7 +27,8 @@ abbrev μ-loop : tie.MeasureT-loop
 abbrev turn : tie.In-loop Inv-loop μ-loop → tie.At-loop Inv-loop μ-loop
 turn t = t .before
 
-inside : (t : tie.In-loop Inv-loop μ-loop) → turn t .loop .at + (1 + getD (turn t .loop .work) (turn t .loop .at) 0 * 5) ≤ length (turn t .loop .work)
+inside : (t : tie.In-loop Inv-loop μ-loop)
+    → turn t .loop .at + (1 + getD (turn t .loop .work) (turn t .loop .at) 0 * 5) ≤ length (turn t .loop .work)
 inside t = within _ _ _ _ _ (turn t .loop .inv) (t .loop-test .taken)
 
 few : (t : tie.In-loop Inv-loop μ-loop) → getD (turn t .loop .work) (turn t .loop .at) 0 ≤ 11
@@ -69,10 +70,14 @@ move-down-requires : tie.Need-move-down-requires Inv-loop μ-loop
 move-down-requires c κs = let t = c .before .before .before .before .before .before in (turn t .loop .inv .lower, inside t)
 
 add-end : tie.Need-add-end Inv-loop μ-loop
-add-end c = let t = c .before .before .before .before .before .before .before .before .before in omega (arith, turn t .loop .inv .lower, inside t)
+add-end c =
+    let t = c .before .before .before .before .before .before .before .before .before in
+    omega (arith, turn t .loop .inv .lower, inside t)
 
 add-kept : tie.Need-add-kept Inv-loop μ-loop
-add-kept c = let t = c .before .before .before .before .before .before .before .before .before in omega (arith, turn t .loop .inv .few, turn t .loop .inv .passed)
+add-kept c =
+    let t = c .before .before .before .before .before .before .before .before .before in
+    omega (arith, turn t .loop .inv .few, turn t .loop .inv .passed)
 
 add-at : tie.Need-add-at Inv-loop μ-loop
 add-at c = omega (arith, inside (c .before .before .before .before .before))

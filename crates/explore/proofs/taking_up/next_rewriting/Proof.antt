@@ -6,6 +6,7 @@ use mathlib.Core.Path.{_≡_, refl, sym, ap, _∙_, subst}
 use mathlib.Core.List.{List}
 use Prim.Native.Nat.{ℕ, _+_, _-_, _≤_, _<_}
 use lib.ListN.{length, getD, drop}
+use Rattle.cover.specs.Term.{Question}
 use Rattle.cover.specs.Record.{desk, questionOf}
 use Rattle.book.specs.Header.{rules as rulesOf}
 use Rattle.book.specs.Book.{ruleAt, rulesFrom, ruleStart, bookOf}
@@ -27,15 +28,38 @@ Inv-loop book starts member k from rules rule₀ choice₀ rule choice =
 abbrev μ-loop : tie.MeasureT-loop
 μ-loop book starts member k from rules rule₀ choice₀ rule choice = rules - rule
 
+-- points of the walk: where the function began, and the turn that asked the lister
+abbrev start : tie.In-loop Inv-loop μ-loop → tie.Start Inv-loop μ-loop
+start t = t .before .before .before .before .before .before
+
+abbrev book-of : tie.In-loop Inv-loop μ-loop → List ℕ
+book-of t = start t .args .book .now
+
+abbrev member-of : tie.In-loop Inv-loop μ-loop → Question
+member-of t = questionOf desk (start t .args .member .now)
+
+abbrev asking : tie.After-next Inv-loop μ-loop → tie.In-loop Inv-loop μ-loop
+asking n = n .before .before .before
+
 -- the rule of this turn is one of the book's
-within : (c : tie.In-loop Inv-loop μ-loop) → c .before .loop .rule < rulesOf (c .before .before .before .before .before .before .args .book .now)
-within c =
-    let b = c .before .before .before .before .before .before in
-    omega (arith, c .loop-test .taken, rules-read (b .args .book .now) (b .pre .0) _ (c .before .before .read .ensures))
+within : (t : tie.In-loop Inv-loop μ-loop) → t .before .loop .rule < rulesOf (book-of t)
+within t =
+    omega (arith, t .loop-test .taken, rules-read (book-of t) (start t .pre .0) _ (t .before .before .read .ensures))
+
+-- what was found for it
+found : (n : tie.After-next Inv-loop μ-loop)
+    → n .next .result
+    ≡ answered
+    (next apart (ruleAt (book-of (asking n)) (ruleStart (book-of (asking n)) (asking n .before .loop .rule)))
+    (member-of (asking n)) (asking n .before .loop .choice))
+found n =
+    let t = asking n in
+    let b = start t in
+    found-is (book-of t) (b .pre .0) (b .args .starts .now) (b .pre .1) _ (within t) _ (n .before .rule-at .ensures) _ _ _
+    (n .next .ensures)
 
 read-requires : tie.Need-read-requires Inv-loop μ-loop
-read-requires c κs =
-    sound-long _ (c .before .before .before .pre .0)
+read-requires c κs = sound-long _ (c .before .before .before .pre .0)
 
 loop-holds : tie.Need-loop-holds Inv-loop μ-loop
 loop-holds c =
@@ -43,50 +67,37 @@ loop-holds c =
     ap (nextAmong (questionOf desk (a .member .now)) (a .k) (a .from)) (rules-left (a .book .now) (a .k))
 
 mul-rule-at : tie.Need-mul-rule-at Inv-loop μ-loop
-mul-rule-at c =
-    let b = c .before .before .before .before .before .before in
-    omega (arith, within c, rules-few (b .args .book .now) (b .pre .0))
+mul-rule-at c = omega (arith, within c, rules-few (book-of c) (start c .pre .0))
 
 shared-slice-read-rule-at : tie.Need-shared-slice-read-rule-at Inv-loop μ-loop
 shared-slice-read-rule-at c =
-    let b = c .before .before .before .before .before .before .before in
-    start-inside (b .args .book .now) (b .pre .0) (b .args .starts .now) (b .pre .1) _ (within (c .before))
+    let t = c .before in
+    let b = start t in
+    start-inside (book-of t) (b .pre .0) (b .args .starts .now) (b .pre .1) _ (within t)
 
 rule-at-requires : tie.Need-rule-at-requires Inv-loop μ-loop
 rule-at-requires c κs =
-    let b = c .before .before .before .before .before .before .before in
-    start-fits (b .args .book .now) (b .pre .0) (b .args .starts .now) (b .pre .1) _ (within (c .before))
+    let t = c .before in
+    let b = start t in
+    start-fits (book-of t) (b .pre .0) (b .args .starts .now) (b .pre .1) _ (within t)
 
 next-requires : tie.Need-next-requires Inv-loop μ-loop
 next-requires c κs =
-    let b = c .before .before .before .before .before .before .before .before in (
-      b .pre .2,
-      parts-in (b .args .book .now) (b .pre .0) (b .args .starts .now) (b .pre .1) _ (within (c .before .before)) _
-          (c .rule-at .ensures),
-    )
-
--- what was found for the rule of this turn
-found : (c : tie.After-next Inv-loop μ-loop)
-    → c .next .result
-    ≡ answered
-    (next apart (ruleAt (c .before .before .before .before .before .before .before .before .before .args .book .now)
-    (ruleStart (c .before .before .before .before .before .before .before .before .before .args .book .now) (c .before .before .before .before .loop .rule)))
-    (questionOf desk (c .before .before .before .before .before .before .before .before .before .args .member .now)) (c .before .before .before .before .loop .choice))
-found c =
-    let b = c .before .before .before .before .before .before .before .before .before in
-    found-is (b .args .book .now) (b .pre .0) (b .args .starts .now) (b .pre .1) _ (within (c .before .before .before)) _
-    (c .before .rule-at .ensures) _ _ _ (c .next .ensures)
+    let t = c .before .before in
+    let b = start t in
+    let rule = c .rule-at .ensures in
+    (b .pre .2, parts-in (book-of t) (b .pre .0) (b .args .starts .now) (b .pre .1) _ (within t) _ rule)
 
 returns : tie.Need-returns Inv-loop μ-loop
 returns c =
-    let l = c .before .before .before .before .before .before in
-    let a = c .before .before .before .before .before .before .before .before .before .before .before .args in
-    let b = c .before .before .before .before .before .before .before .before .before .before .before in (
-      among-found (a .book .now) (questionOf desk (a .member .now)) _ _ (within (c .before .before .before .before .before)) _ (found (c .before .before))
-          (c .before .if1 .taken)
-          ∙ ap taken (sym (l .loop .inv)),
-      few-choices (a .book .now) (b .pre .0) (a .starts .now) (b .pre .1) _ (within (c .before .before .before .before .before)) _ (c .before .before .before .rule-at .ensures)
-          (a .member .now) (b .pre .2) _ _ (c .before .before .next .ensures) (c .before .if1 .taken),
+    let n = c .before .before in
+    let t = asking n in
+    let b = start t in
+    let rule = n .before .rule-at .ensures in
+    let yes = c .before .if1 .taken in (
+      among-found (book-of t) (member-of t) _ _ (within t) _ (found n) yes ∙ ap taken (sym (t .before .loop .inv)),
+      few-choices (book-of t) (b .pre .0) (b .args .starts .now) (b .pre .1) _ (within t) _ rule (b .args .member .now)
+          (b .pre .2) _ _ (n .next .ensures) yes,
     )
 
 add-rule : tie.Need-add-rule Inv-loop μ-loop
@@ -97,11 +108,9 @@ loop-less c = search needs
 
 loop-again : tie.Need-loop-again Inv-loop μ-loop
 loop-again c =
-    let l = c .before .before .before .before .before in
-    let a = c .before .before .before .before .before .before .before .before .before .before .args in
-    l .loop .inv
-    ∙ among-later (a .book .now) (questionOf desk (a .member .now)) _ _ (within (c .before .before .before .before)) _ (found (c .before))
-    (c .if1 .left)
+    let n = c .before in
+    let t = asking n in
+    t .before .loop .inv ∙ among-later (book-of t) (member-of t) _ _ (within t) _ (found n) (c .if1 .left)
 
 returns-2 : tie.Need-returns-2 Inv-loop μ-loop
 returns-2 c =

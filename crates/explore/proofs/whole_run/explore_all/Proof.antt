@@ -9,8 +9,8 @@ use lib.ListN.{length}
 use Rattle.book.specs.Book.{bookOf}
 use Rattle.book.proofs.Sound.{sound-long}
 use Rattle.exploration.proofs.FromBook.{allowed-few}
-use Rattle.explore.proofs.Running.{Running, first-sound, first-fits, first-running, running-next, outcome-complete, outcome-ten}
-use Rattle.explore.proofs.Running.{outcome-refused, taken-working, member-of, allowed-read}
+use Rattle.explore.proofs.Running.{Running, first-sound, first-fits, first-running, running-next}
+use Rattle.explore.proofs.Running.{outcome-complete, outcome-ten, outcome-refused, taken-working, member-of, allowed-read}
 use Rattle.explore.proofs.whole_run.explore_all.Statement.{statement}
 use Rattle.explore.proofs.whole_run.explore_all.Tie as tie
 
@@ -68,7 +68,8 @@ same-length : tie.Need-same-length Inv-loop μ-loop
 same-length c = sized (c .before .before .before)
 
 -- the explorations allowed, as they were read
-allowed-is : (l : tie.At-loop Inv-loop μ-loop) → l .before .before .before .before .before .before .before .before .read .result .allowed ≡ bookOf (book-of l) .allowed
+allowed-is : (l : tie.At-loop Inv-loop μ-loop)
+    → l .before .before .before .before .before .before .before .before .read .result .allowed ≡ bookOf (book-of l) .allowed
 allowed-is l = allowed-read (book-of l) _ (l .before .before .before .before .before .before .before .before .read .ensures)
 
 returns : tie.Need-returns Inv-loop μ-loop
@@ -128,7 +129,8 @@ enum-known-explored-2 : tie.Need-enum-known-explored-2 Inv-loop μ-loop
 enum-known-explored-2 c = search needs
 
 same-length-2 : tie.Need-same-length-2 Inv-loop μ-loop
-same-length-2 c = c .before .before .before .before .work2 .given ∙ sized (turn (taking-up (c .before .before .before .before .before)))
+same-length-2 c =
+    c .before .before .before .before .work2 .given ∙ sized (turn (taking-up (c .before .before .before .before .before)))
 
 returns-2 : tie.Need-returns-2 Inv-loop μ-loop
 returns-2 c =

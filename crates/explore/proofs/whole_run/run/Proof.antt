@@ -26,7 +26,8 @@ returns-2 c =
 
 run-sound-requires : tie.Need-run-sound-requires
 run-sound-requires c κs =
-    (sym (ap (λ (x : Refusal). x .number) (c .before .before .before .check .ensures)) ∙ c .before .if2 .left, c .before .before .before .before .if1 .left)
+    let is = c .before .before .before .check .ensures in
+    (sym (ap (λ (x : Refusal). x .number) is) ∙ c .before .if2 .left, c .before .before .before .before .if1 .left)
 
 same-length : tie.Need-same-length
 same-length c = search needs

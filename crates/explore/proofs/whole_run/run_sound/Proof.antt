@@ -10,7 +10,10 @@ use Rattle.explore.proofs.Endings.{returns-stopped, returns-complete}
 use Rattle.explore.proofs.whole_run.run_sound.Statement.{statement}
 use Rattle.explore.proofs.whole_run.run_sound.Tie as tie
 
--- what the array holds where the run is complete
+-- where the function began, and what the array holds where the run is complete
+abbrev start : tie.After-ran → tie.Start
+start r = r .before .before .before .before .before .before .before
+
 complete : (c : tie.After-ran)
     → RanIs (outcomeOf (c .before .before .before .before .before .before .before .args .book .now))
     (c .before .before .before .explore-all .last .1 .0) (Complete (c .ran .given .0 .0) (c .ran .given .0 .1 .0))
@@ -44,7 +47,8 @@ slice-aggregate-copy-out c = search needs
 copy-out-requires : tie.Need-copy-out-requires
 copy-out-requires c κs =
     let w = complete (c .before .before .before .before .before .before) .1 in
-    (omega (arith, len-most w, c .before .before .work4 .given, w .held .size), omega (arith, len-most w, c .before .before .before .before .before .before .before .before .before .before .before .before .before .pre .1))
+    let b = start (c .before .before .before .before .before .before) in
+    (omega (arith, len-most w, c .before .before .work4 .given, w .held .size), omega (arith, len-most w, b .pre .1))
 
 enum-known-ran-2 : tie.Need-enum-known-ran-2
 enum-known-ran-2 c = search needs
@@ -54,8 +58,9 @@ same-length c = search needs
 
 returns : tie.Need-returns
 returns c =
-    let b = c .before .before .before .before .before .before .before .before .before .before .before .before .before .before .before .before in
-    returns-complete (b .args .book .now) (b .args .out .now) (b .pre .1) (b .pre .0) _ _ _ (complete (c .before .before .before .before .before .before .before .before .before)) _ _
+    let r = c .before .before .before .before .before .before .before .before .before in
+    let b = start r in
+    returns-complete (b .args .book .now) (b .args .out .now) (b .pre .1) (b .pre .0) _ _ _ (complete r) _ _
     (c .before .before .before .before .before .before .fill-header .ensures) (c .before .before .copy-out .ensures)
 
 returns-2 : tie.Need-returns-2
