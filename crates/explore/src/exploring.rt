@@ -1,5 +1,7 @@
 // Exploring one member.
+ghost use mathlib.Core.Path.{_≡_};
 ghost use Rattle.cover.specs.Record.{desk, questionOf};
+ghost use Rattle.book.specs.Header.{rules as rulesOf};
 ghost use Rattle.book.specs.Book.{bookOf};
 ghost use Rattle.book.specs.Verdict.{Sound as SoundBook};
 ghost use Rattle.book.specs.Parts.{StartsAt};
@@ -14,12 +16,14 @@ use super::taking_up::next_rewriting;
 // after the append.
 pub fn explore(
     book: &[u8],
+    rules: usize,
     starts: &[usize],
     member: &[u8],
     work: &mut [u8],
     filled: Extent,
 ) -> Explored
     requires { ⌜ SoundBook (now book)
+        × (rules ≡ rulesOf (now book))
         × StartsAt (now book) (now starts)
         × MemberIn (now book) (now member)
         × Working (now work) filled ⌝ }
@@ -35,7 +39,7 @@ pub fn explore(
     let mut rule = 0;
     let mut from = 0;
     loop {
-        let taken = next_rewriting(book, starts, member, rule, from);
+        let taken = next_rewriting(book, rules, starts, member, rule, from);
         if !taken.found {
             return Explored::Passed(held);
         }

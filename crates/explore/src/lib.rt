@@ -1,5 +1,5 @@
-// The exploration: one book in, the whole union or a numbered refusal out. Its definitions are in specs/, the laws
-// and the three demands in proofs/.
+// The exploration: one book in, the whole union or a numbered refusal out. What the run is, and what it is worth, stands
+// in `exploration`; specs/ says how the functions hold its state.
 mod admitting;
 mod covering;
 mod exploring;

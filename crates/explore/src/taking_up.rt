@@ -4,7 +4,7 @@ ghost use Prim.Native.Nat.{_≤_, _<_};
 ghost use lib.ListN.{drop};
 ghost use Rattle.cover.specs.Record.{desk, questionOf, heldIn, Sound};
 ghost use Rattle.book.specs.Book.{bookOf};
-ghost use Rattle.book.specs.Header.{rules};
+ghost use Rattle.book.specs.Header.{rules as rulesOf};
 ghost use Rattle.book.specs.Verdict.{Sound as SoundBook};
 ghost use Rattle.book.specs.Parts.{StartsAt};
 ghost use Rattle.unify.specs.Choice.{mostChoices};
@@ -44,8 +44,18 @@ pub fn oldest(work: &[u8], filled: Extent) -> [u8; 56]
 }
 
 // The first rewriting of the member from choice `from` of the k-th rule on: "rules in book order, choices in theirs".
-pub fn next_rewriting(book: &[u8], starts: &[usize], member: &[u8], k: usize, from: usize) -> Taken
-    requires { ⌜ SoundBook (now book) × StartsAt (now book) (now starts) × QuestionIn (now member) ⌝ }
+pub fn next_rewriting(
+    book: &[u8],
+    rules: usize,
+    starts: &[usize],
+    member: &[u8],
+    k: usize,
+    from: usize,
+) -> Taken
+    requires { ⌜ SoundBook (now book)
+        × (rules ≡ rulesOf (now book))
+        × StartsAt (now book) (now starts)
+        × QuestionIn (now member) ⌝ }
     ensures { λ r. ⌜ (r
         ≡ taken
         (nextAmong
@@ -55,7 +65,6 @@ pub fn next_rewriting(book: &[u8], starts: &[usize], member: &[u8], k: usize, fr
         (drop k (bookOf (now (book .entry)) .rules))))
         × (r .choice < mostChoices) ⌝ }
 {
-    let rules = book::read(book).rules;
     let mut rule = k;
     let mut choice = from;
     while rule < rules {

@@ -39,7 +39,9 @@ fn explore_all(book: &[u8], work: &mut [u8]) -> Ran
     requires { ⌜ SoundBook (now book) × (length (now work) ≡ outputSize) ⌝ }
     ensures { λ r. ⌜ RanIs (outcomeOf (now (book .entry))) (now (work .exit)) r ⌝ }
 {
-    let allowed = book::read(book).allowed;
+    let header = book::read(book);
+    let rules = header.rules;
+    let allowed = header.allowed;
     let starts = book::starts(book);
     let first = first_member(book);
     let len = append(work, FIRST, &first);
@@ -56,7 +58,7 @@ fn explore_all(book: &[u8], work: &mut [u8]) -> Ran
         let member = oldest(work, filled);
         taken += 1;
         filled.front += 1;
-        let explored = explore(book, &starts, &member, work, filled);
+        let explored = explore(book, rules, &starts, &member, work, filled);
         match explored {
             Explored::Passed(next) => filled = next,
             Explored::Refused(number) => return Ran::Refused(number, taken),

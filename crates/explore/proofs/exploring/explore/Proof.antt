@@ -31,11 +31,11 @@ use Rattle.explore.proofs.exploring.explore.Statement.{statement}
 use Rattle.explore.proofs.exploring.explore.Tie as tie
 
 abbrev Inv-loop : tie.InvT-loop
-Inv-loop book starts member work₀ held₀ rule₀ from₀ work held rule from =
+Inv-loop book rules starts member work₀ held₀ rule₀ from₀ work held rule from =
     Onward (bookOf book .rules) (questionOf desk member) work₀ held₀ work held rule from
 
 abbrev μ-loop : tie.MeasureT-loop
-μ-loop book starts member work₀ held₀ rule₀ from₀ work held rule from =
+μ-loop book rules starts member work₀ held₀ rule₀ from₀ work held rule from =
     length (coming (questionOf desk member) from (drop rule (bookOf book .rules)))
 
 -- points of the walk: where a turn begins, where the function began, the turn that has a rewriting
@@ -71,7 +71,7 @@ sound : (e : tie.Else1 Inv-loop μ-loop) → Sound desk (record-of e)
 sound e =
     let b = start (turn e) in
     subst (Sound desk) (sym (given e .bytes))
-    (rewriting-sound (b .args .book .now) (b .pre .0) _ (b .pre .2 .fits) _ (listed e))
+    (rewriting-sound (b .args .book .now) (b .pre .0) _ (b .pre .3 .fits) _ (listed e))
 
 length-is : (e : tie.Else1 Inv-loop μ-loop) → length (record-of e) ≡ 56
 length-is e = search needs
@@ -80,7 +80,7 @@ question : (e : tie.Else1 Inv-loop μ-loop) → questionOf desk (record-of e) �
 question e =
     let b = start (turn e) in
     ap (questionOf desk) (given e .bytes)
-    ∙ rewriting-question (b .args .book .now) (b .pre .0) _ (b .pre .2 .fits) _ (listed e)
+    ∙ rewriting-question (b .args .book .now) (b .pre .0) _ (b .pre .3 .fits) _ (listed e)
 
 covers-is : (e : tie.Else1 Inv-loop μ-loop) (b : Bool) → b ≡ covers (questionOf desk (record-of e)) (member-of (turn e))
     → covers (given e .rewriting) (member-of (turn e)) ≡ b
@@ -111,21 +111,22 @@ is-dropped (Refused n) t = absurd (omega (arith, t))
 loop-holds : tie.Need-loop-holds Inv-loop μ-loop
 loop-holds c =
     let b = c .before .before .before .before in
-    onward-first (bookOf (b .args .book .now) .rules) (questionOf desk (b .args .member .now)) _ _ (b .pre .3)
+    onward-first (bookOf (b .args .book .now) .rules) (questionOf desk (b .args .member .now)) _ _ (b .pre .4)
 
 next-rewriting-requires : tie.Need-next-rewriting-requires Inv-loop μ-loop
 next-rewriting-requires c κs =
     let b = start c in
-    let M = b .pre .2 in (
+    let M = b .pre .3 in (
       b .pre .0,
       b .pre .1,
+      b .pre .2,
       subst QuestionIn (sym (M .holds)) (member-in (b .args .book .now) (b .pre .0) _ (M .fits)),
     )
 
 same-length : tie.Need-same-length Inv-loop μ-loop
 same-length c =
     let l = c .before .before .before in
-    l .loop .inv .working .held .size ∙ sym (start l .pre .3 .held .size)
+    l .loop .inv .working .held .size ∙ sym (start l .pre .4 .held .size)
 
 returns : tie.Need-returns Inv-loop μ-loop
 returns c =
@@ -152,13 +153,13 @@ covers-sound-requires c κs =
     let e = having (c .before .before .before .before .before .before) in
     let b = start (turn e) in (
       sound e,
-      subst (Sound desk) (sym (b .pre .2 .holds)) (member-sound (b .args .book .now) (b .pre .0) _ (b .pre .2 .fits)),
+      subst (Sound desk) (sym (b .pre .3 .holds)) (member-sound (b .args .book .now) (b .pre .0) _ (b .pre .3 .fits)),
     )
 
 same-length-2 : tie.Need-same-length-2 Inv-loop μ-loop
 same-length-2 c =
     let b = start (turn (having (c .before .before .before .before .before .before .before .before))) in
-    appended (c .before .before .before) .1 .held .size ∙ sym (b .pre .3 .held .size)
+    appended (c .before .before .before) .1 .held .size ∙ sym (b .pre .4 .held .size)
 
 returns-2 : tie.Need-returns-2 Inv-loop μ-loop
 returns-2 c =

@@ -10,27 +10,26 @@ use Rattle.cover.specs.Term.{Question}
 use Rattle.cover.specs.Record.{desk, questionOf}
 use Rattle.book.specs.Header.{rules as rulesOf}
 use Rattle.book.specs.Book.{ruleAt, rulesFrom, ruleStart, bookOf}
-use Rattle.book.proofs.Sound.{sound-long}
 use Rattle.unify.specs.Held.{answered}
 use Rattle.unify.specs.Step.{next}
 use Rattle.exploration.specs.Run.{apart}
 use Rattle.explore.specs.Taking.{nextAmong, taken}
-use Rattle.explore.proofs.Among.{rules-left, among-none, among-found, among-later, rules-read, rules-few}
+use Rattle.explore.proofs.Among.{rules-left, among-none, among-found, among-later, rules-few}
 use Rattle.explore.proofs.Among.{start-fits, start-inside, parts-in, found-is, few-choices}
 use Rattle.explore.proofs.taking_up.next_rewriting.Statement.{statement}
 use Rattle.explore.proofs.taking_up.next_rewriting.Tie as tie
 
 abbrev Inv-loop : tie.InvT-loop
-Inv-loop book starts member k from rules rule₀ choice₀ rule choice =
+Inv-loop book rules starts member k from rule₀ choice₀ rule choice =
     nextAmong (questionOf desk member) k from (drop k (bookOf book .rules))
     ≡ nextAmong (questionOf desk member) rule choice (rulesFrom book (ruleStart book rule) (rulesOf book - rule))
 
 abbrev μ-loop : tie.MeasureT-loop
-μ-loop book starts member k from rules rule₀ choice₀ rule choice = rules - rule
+μ-loop book rules starts member k from rule₀ choice₀ rule choice = rules - rule
 
 -- points of the walk: where the function began, and the turn that asked the lister
 abbrev start : tie.In-loop Inv-loop μ-loop → tie.Start Inv-loop μ-loop
-start t = t .before .before .before .before .before .before
+start t = t .before .before .before .before .before
 
 abbrev book-of : tie.In-loop Inv-loop μ-loop → List ℕ
 book-of t = start t .args .book .now
@@ -43,8 +42,7 @@ asking n = n .before .before .before
 
 -- the rule of this turn is one of the book's
 within : (t : tie.In-loop Inv-loop μ-loop) → t .before .loop .rule < rulesOf (book-of t)
-within t =
-    omega (arith, t .loop-test .taken, rules-read (book-of t) (start t .pre .0) _ (t .before .before .read .ensures))
+within t = omega (arith, t .loop-test .taken, start t .pre .1)
 
 -- what was found for it
 found : (n : tie.After-next Inv-loop μ-loop)
@@ -55,15 +53,12 @@ found : (n : tie.After-next Inv-loop μ-loop)
 found n =
     let t = asking n in
     let b = start t in
-    found-is (book-of t) (b .pre .0) (b .args .starts .now) (b .pre .1) _ (within t) _ (n .before .rule-at .ensures) _ _ _
+    found-is (book-of t) (b .pre .0) (b .args .starts .now) (b .pre .2) _ (within t) _ (n .before .rule-at .ensures) _ _ _
     (n .next .ensures)
-
-read-requires : tie.Need-read-requires Inv-loop μ-loop
-read-requires c κs = sound-long _ (c .before .before .before .pre .0)
 
 loop-holds : tie.Need-loop-holds Inv-loop μ-loop
 loop-holds c =
-    let a = c .before .before .before .before .args in
+    let a = c .before .before .before .args in
     ap (nextAmong (questionOf desk (a .member .now)) (a .k) (a .from)) (rules-left (a .book .now) (a .k))
 
 mul-rule-at : tie.Need-mul-rule-at Inv-loop μ-loop
@@ -73,20 +68,20 @@ shared-slice-read-rule-at : tie.Need-shared-slice-read-rule-at Inv-loop μ-loop
 shared-slice-read-rule-at c =
     let t = c .before in
     let b = start t in
-    start-inside (book-of t) (b .pre .0) (b .args .starts .now) (b .pre .1) _ (within t)
+    start-inside (book-of t) (b .pre .0) (b .args .starts .now) (b .pre .2) _ (within t)
 
 rule-at-requires : tie.Need-rule-at-requires Inv-loop μ-loop
 rule-at-requires c κs =
     let t = c .before in
     let b = start t in
-    start-fits (book-of t) (b .pre .0) (b .args .starts .now) (b .pre .1) _ (within t)
+    start-fits (book-of t) (b .pre .0) (b .args .starts .now) (b .pre .2) _ (within t)
 
 next-requires : tie.Need-next-requires Inv-loop μ-loop
 next-requires c κs =
     let t = c .before .before in
     let b = start t in
     let rule = c .rule-at .ensures in
-    (b .pre .2, parts-in (book-of t) (b .pre .0) (b .args .starts .now) (b .pre .1) _ (within t) _ rule)
+    (b .pre .3, parts-in (book-of t) (b .pre .0) (b .args .starts .now) (b .pre .2) _ (within t) _ rule)
 
 returns : tie.Need-returns Inv-loop μ-loop
 returns c =
@@ -96,8 +91,8 @@ returns c =
     let rule = n .before .rule-at .ensures in
     let yes = c .before .if1 .taken in (
       among-found (book-of t) (member-of t) _ _ (within t) _ (found n) yes ∙ ap taken (sym (t .before .loop .inv)),
-      few-choices (book-of t) (b .pre .0) (b .args .starts .now) (b .pre .1) _ (within t) _ rule (b .args .member .now)
-          (b .pre .2) _ _ (n .next .ensures) yes,
+      few-choices (book-of t) (b .pre .0) (b .args .starts .now) (b .pre .2) _ (within t) _ rule (b .args .member .now)
+          (b .pre .3) _ _ (n .next .ensures) yes,
     )
 
 add-rule : tie.Need-add-rule Inv-loop μ-loop
@@ -115,10 +110,9 @@ loop-again c =
 returns-2 : tie.Need-returns-2 Inv-loop μ-loop
 returns-2 c =
     let l = c .before in
-    let b = c .before .before .before .before .before .before in
+    let b = c .before .before .before .before .before in
     let B = b .args .book .now in
-    let all : rulesOf B ≤ l .loop .rule =
-    omega (arith, c .loop-test .left, rules-read B (b .pre .0) _ (l .before .read .ensures)) in
+    let all : rulesOf B ≤ l .loop .rule = omega (arith, c .loop-test .left, b .pre .1) in
     (ap taken (sym (l .loop .inv ∙ among-none B (questionOf desk (b .args .member .now)) _ _ all)), search needs)
 
 pub next-rewriting-spec : {M : Type 1} → statement M
@@ -127,7 +121,6 @@ next-rewriting-spec =
     (tie.spec
     Inv-loop
     μ-loop
-    read-requires
     loop-holds
     mul-rule-at
     shared-slice-read-rule-at

@@ -9,16 +9,17 @@ use lib.ListN.{length}
 use Rattle.book.specs.Book.{bookOf}
 use Rattle.book.proofs.Sound.{sound-long}
 use Rattle.exploration.proofs.FromBook.{allowed-few}
+use Rattle.explore.proofs.Among.{rules-read}
 use Rattle.explore.proofs.Running.{Running, first-sound, first-fits, first-running, running-next}
 use Rattle.explore.proofs.Running.{outcome-complete, outcome-ten, outcome-refused, taken-working, member-of, allowed-read}
 use Rattle.explore.proofs.whole_run.explore_all.Statement.{statement}
 use Rattle.explore.proofs.whole_run.explore_all.Tie as tie
 
 abbrev Inv-loop : tie.InvT-loop
-Inv-loop book work₀ allowed starts len filled₀ taken₀ work filled taken = Running book work filled taken
+Inv-loop book work₀ rules allowed starts len filled₀ taken₀ work filled taken = Running book work filled taken
 
 abbrev μ-loop : tie.MeasureT-loop
-μ-loop book work₀ allowed starts len filled₀ taken₀ work filled taken = allowed - taken
+μ-loop book work₀ rules allowed starts len filled₀ taken₀ work filled taken = allowed - taken
 
 -- points of the walk: where a turn begins, where the function began, and the turn whose member is explored
 abbrev turn : tie.Else2 Inv-loop μ-loop → tie.At-loop Inv-loop μ-loop
@@ -105,6 +106,7 @@ explore-requires c κs =
     let s = start l .pre .0 in
     let old = c .before .before .before .before .oldest .ensures in (
       s,
+      rules-read (book-of l) s _ (l .before .before .before .before .before .before .before .before .read .ensures),
       l .before .before .before .before .before .before .before .starts .ensures,
       member-of (book-of l) (l .loop .inv) (e .before .if1 .taken) (more e) s (old .0) (old .1) _ (old .2),
       taken-working (book-of l) (l .loop .inv) (e .before .if1 .taken) (more e),
@@ -123,7 +125,7 @@ loop-again c =
     let l = turn e in
     let old = x .before .before .before .before .before .oldest .ensures in
     running-next (book-of l) (l .loop .inv) (e .before .if1 .taken) (more e) (start l .pre .0) (old .0) (old .1) _ (old .2)
-    (x .explore .last .1 .1 .1 .0) (x .explore .result) (x .explore .ensures) _ (c .before .explored .given .1)
+    (x .explore .last .1 .1 .1 .1 .0) (x .explore .result) (x .explore .ensures) _ (c .before .explored .given .1)
 
 enum-known-explored-2 : tie.Need-enum-known-explored-2 Inv-loop μ-loop
 enum-known-explored-2 c = search needs
@@ -139,7 +141,7 @@ returns-2 c =
     let l = turn e in
     let old = x .before .before .before .before .before .oldest .ensures in
     outcome-refused (book-of l) (l .loop .inv) (e .before .if1 .taken) (more e) (start l .pre .0) (old .0) (old .1) _
-    (old .2) (x .explore .last .1 .1 .1 .0) (x .explore .result) (x .explore .ensures) _ (c .before .explored2 .given .1)
+    (old .2) (x .explore .last .1 .1 .1 .1 .0) (x .explore .result) (x .explore .ensures) _ (c .before .explored2 .given .1)
 
 same-length-3 : tie.Need-same-length-3 Inv-loop μ-loop
 same-length-3 c = sized (c .before .before)
