@@ -1,5 +1,6 @@
 -- The book that a sound book's bytes mean keeps to its own numbers: relations below P, variables below 32, constants
--- below C, one to four terms in each atom. Assumes nothing.
+-- below C, one to four terms in each atom; bodies of one to four atoms, a question of one to eight, and a number of
+-- members allowed of at most 1,000. Assumes nothing.
 use mathlib.Core.Path.{_≡_, sym, _∙_, ap, subst}
 use mathlib.Core.Bool.{_&&_}
 use mathlib.Core.Logic.{_⊎_, inl, inr}
@@ -7,21 +8,57 @@ use mathlib.Core.List.{List}
 use Prim.Native.Nat.{ℕ, _+_, _*_, _≤_, _<_}
 use native.Mathlib.Omega.{arith}
 use lib.Dec.{T, ltb, leb, ltb→lt, leb→le}
+use lib.ListN.{length}
 use Rattle.cover.specs.Lists.{_∈_}
 use Rattle.cover.specs.Term.{Atom}
 use Rattle.cover.specs.Record.{Layout, desk, termOf, atomAt, atomsAt, TermFits, AtomFits}
 use Rattle.cover.proofs.Lists.{or-cases, fst-of, snd-of}
+use Rattle.cover.proofs.Bytes.{term-var, term-con}
+use Rattle.cover.proofs.Places.{relation-at, atom-each, atoms-each}
+use Rattle.cover.proofs.Lengths.{count-atoms}
 use Rattle.book.specs.Rule.{Rule}
 use Rattle.book.specs.Word.{byte}
 use Rattle.book.specs.Header.{constants, rules, atoms, questionAt, constantsRange, atomSize, variables}
-use Rattle.book.specs.Book.{ruleAt, ruleStart, rulesStart, placesOf, bookOf}
+use Rattle.book.specs.Book.{bodyCount, ruleAt, ruleStart, rulesStart, placesOf, bookOf}
 use Rattle.book.specs.Refusals.{usedAllowed}
 use Rattle.book.specs.Verdict.{Sound}
 use Rattle.book.proofs.Earliest.{le-or-lt}
 use Rattle.book.proofs.Sound.{Room, AtomRight, used-place, unused-place, right-places}
 use Rattle.book.proofs.Sound.{sound-rule, sound-question, sound-header}
-use Rattle.book.proofs.Reading.{book-rules, book-question, rule-body, rule-head, rule-from}
-use Rattle.book.proofs.FromCover.{term-var, term-con, atom-each, atom-relation, atoms-each}
+use Rattle.book.proofs.Reading.{book-rules, book-question, book-allowed, rule-body, rule-head, rule-from}
+
+-- where a rule of the book starts
+rule-at : (B : List ℕ) (r : Rule) → r ∈ bookOf B .rules → (k : ℕ) × (k < rules B) × (r ≡ ruleAt B (ruleStart B k))
+rule-at B r m = rule-from B (rulesStart B) (rules B) (subst (λ (l : List Rule). r ∈ l) (book-rules B) m)
+
+-- how many there are
+module _ (B : List ℕ) (s : Sound B) where
+  body-count : (k : ℕ) → length (ruleAt B (ruleStart B k) .body) ≡ bodyCount B (ruleStart B k)
+  body-count k = ap length (rule-body B (ruleStart B k)) ∙ count-atoms desk B _ _
+
+  pub body-some : (r : Rule) → r ∈ bookOf B .rules → 1 ≤ length (r .body)
+  body-some r m =
+      let k = rule-at B r m in
+      subst (λ (x : Rule). 1 ≤ length (x .body)) (sym (k .2))
+      (omega (arith, body-count (k .0), sound-rule B s (k .0) (k .1) .some-body))
+
+  pub body-few : (r : Rule) → r ∈ bookOf B .rules → length (r .body) ≤ 4
+  body-few r m =
+      let k = rule-at B r m in
+      subst (λ (x : Rule). length (x .body) ≤ 4) (sym (k .2))
+      (omega (arith, body-count (k .0), sound-rule B s (k .0) (k .1) .few-body))
+
+  question-count : length (bookOf B .question) ≡ atoms B
+  question-count = ap length (book-question B) ∙ count-atoms desk B (atoms B) (questionAt B)
+
+  pub question-some : 1 ≤ length (bookOf B .question)
+  question-some = omega (arith, question-count, sound-question B s .some-atom)
+
+  pub question-few : length (bookOf B .question) ≤ 8
+  question-few = omega (arith, question-count, sound-question B s .few-atoms)
+
+  pub allowed-few : bookOf B .allowed ≤ 1000
+  allowed-few = omega (arith, book-allowed B, sound-header B s .few-allowed)
 
 module _ (B : List ℕ) (L : Layout) (room : Room B L) where
   -- the term in a used place
@@ -41,7 +78,7 @@ module _ (B : List ℕ) (L : Layout) (room : Room B L) where
   right-fits c {i} a =
       let n = right-places B a c in
       record {
-        relation = omega (arith, atom-relation desk B i, a .relation, room .relations-fit);
+        relation = omega (arith, relation-at desk B i, a .relation, room .relations-fit);
         some-place = omega (arith, n, a .some-place);
         places = omega (arith, n, a .few-places, room .places-are);
         terms = atom-each desk B (TermFits L) i (λ w l f. each w l f (le-or-lt (placesOf B (byte B i)) w));
@@ -68,17 +105,14 @@ module _ (B : List ℕ) (L : Layout) (room : Room B L) where
 
     -- every atom of every rule
     module _ (r : Rule) (m : r ∈ bookOf B .rules) where
-      at : (k : ℕ) × (k < rules B) × (r ≡ ruleAt B (ruleStart B k))
-      at = rule-from B (rulesStart B) (rules B) (subst (λ (l : List Rule). r ∈ l) (book-rules B) m)
-
       pub body-fits : (a : Atom) → a ∈ r .body → AtomFits L a
       body-fits a n =
-          let k = at in
+          let k = rule-at B r m in
           all-fit _ _ (sound-rule B s (k .0) (k .1) .body) a
           (subst (λ (A : List Atom). a ∈ A) (ap (λ (x : Rule). x .body) (k .2) ∙ rule-body B (ruleStart B (k .0))) n)
 
       pub head-fits : (a : Atom) → a ∈ r .head → AtomFits L a
       head-fits a n =
-          let k = at in
+          let k = rule-at B r m in
           all-fit _ _ (sound-rule B s (k .0) (k .1) .head) a
           (subst (λ (A : List Atom). a ∈ A) (ap (λ (x : Rule). x .head) (k .2) ∙ rule-head B (ruleStart B (k .0))) n)

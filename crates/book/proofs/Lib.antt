@@ -14,4 +14,3 @@ pub mod Conditions
 pub mod Steps
 pub mod Known
 pub mod Stores
-pub mod FromCover

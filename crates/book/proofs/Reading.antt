@@ -8,7 +8,10 @@ use native.Mathlib.Omega.{arith}
 use lib.Dec.{T}
 use Rattle.cover.specs.Lists.{_∈_}
 use Rattle.cover.specs.Record.{desk, size, atomsAt, questionOf, areAtoms, Sound as SoundRecord}
+use Rattle.cover.proofs.Places.{question-at}
+use Rattle.cover.proofs.Copied.{Copied, are-copied, atoms-copied}
 use Rattle.book.specs.Rule.{Rule}
+use Rattle.book.specs.Word.{byte, word}
 use Rattle.book.specs.Header.{constants, rules, atoms, allowed, questionAt}
 use Rattle.book.specs.Book.{ruleEnd, ruleAt, rulesFrom, after}
 use Rattle.book.specs.Book.{rulesStart, ruleStart, bookOf}
@@ -17,7 +20,11 @@ use Rattle.book.specs.Parts.{partsAt, QuestionRecord}
 use Rattle.book.proofs.After.{after-next}
 use Rattle.book.proofs.Steps.{one-more}
 use Rattle.book.proofs.Sound.{sound-question, sound-atoms, desk-room}
-use Rattle.book.proofs.FromCover.{Copied, are-copied, atoms-copied, question-at}
+
+-- "All words are 16-bit, little-endian."
+pub word-is : (B : List ℕ) (i : ℕ) → word B i ≡ byte B i + 256 * byte B (i + 1)
+unfolding word
+word-is B i = refl
 
 module _ (B : List ℕ) where
   -- the parts of a book
@@ -65,9 +72,6 @@ module _ (B : List ℕ) where
   rule-from s zero m = absurd (List·Memᴰ·not-nil m)
   rule-from s (suc n) {r} m = go (List·Memᴰ·cases-cons m) (λ t. rule-from (ruleEnd B s) n t)
     where
-      Out : Type 0
-      Out = (k : ℕ) × (k < suc n) × (r ≡ ruleAt B (after B s k))
-
       go : (r ≡ ruleAt B s) ⊎ (r ∈ rulesFrom B (ruleEnd B s) n)
           → (r ∈ rulesFrom B (ruleEnd B s) n → (k : ℕ) × (k < n) × (r ≡ ruleAt B (after B (ruleEnd B s) k)))
           → (k : ℕ) × (k < suc n) × (r ≡ ruleAt B (after B s k))

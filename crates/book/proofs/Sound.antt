@@ -12,6 +12,7 @@ use lib.ListN.{length}
 use Rattle.cover.specs.Lists.{orElse}
 use Rattle.cover.specs.Record.{Layout, desk, size, atomAt, isTerm, isAtom, areAtoms}
 use Rattle.cover.proofs.Lists.{decide, clash, or-cases, fst-of, snd-of, none≢some}
+use Rattle.cover.proofs.Places.{is-variable, is-constant, is-atom, are-atoms, atom-args}
 use Rattle.book.specs.declared.Refusal.{Refusal}
 use Rattle.book.specs.Word.{byte}
 use Rattle.book.specs.Header.{headerSize, relations, constants, rules, atoms, questionAt, headerOf, atomSize}
@@ -30,7 +31,6 @@ use Rattle.book.proofs.Found.{bytes-earliest}
 use Rattle.book.proofs.Conditions.{inside-in, rule-right, rules-right, unless-none}
 use Rattle.book.proofs.Exact.{number-from, rules-end-at, verdict-exact}
 use Rattle.book.proofs.Known.{HeaderKnown, known}
-use Rattle.book.proofs.FromCover.{term-variable, term-constant, is-atom, are-atoms, atom-args}
 
 -- nothing applies to a sound book
 pub sound-none : (B : List ℕ) → Sound B → (n p : ℕ) → Applies B n p → ⊥
@@ -130,11 +130,11 @@ module _ (B : List ℕ) where
       go : T (ltb b variables) ⊎ T (leb 128 b && ltb b (128 + constants B)) → T (isTerm L b)
       go (inl h) =
           let l : b < variables = ltb→lt _ _ h in
-          term-variable L b (omega (arith, r .variables-fit))
+          is-variable L b (omega (arith, r .variables-fit))
       go (inr h) =
           let l : 128 ≤ b = leb→le _ _ (fst-of (leb 128 b) (ltb b (128 + constants B)) h) in
           let m : b < 128 + constants B = ltb→lt _ _ (snd-of (leb 128 b) (ltb b (128 + constants B)) h) in
-          term-constant L b l (omega (arith, r .constants-fit))
+          is-constant L b l (omega (arith, r .constants-fit))
 
   -- a used place, an unused place
   module _ {i : ℕ} (a : AtomRight B i) where

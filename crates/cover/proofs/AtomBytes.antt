@@ -21,7 +21,7 @@ use Rattle.cover.proofs.Lists.{either, both, fst-of, snd-of, true→T, 
 use Rattle.cover.proofs.Terms.{atom-path, eqAtom→eq, eqAtom-refl}
 use Rattle.cover.proofs.Bytes.{term-var, term-con, atom-used, term-constant}
 use Rattle.cover.proofs.RoundTrip.{Apart, atoms-read, atoms-back}
-use Rattle.cover.proofs.Padded.{atom-long}
+use Rattle.cover.proofs.Lengths.{atom-long}
 use Rattle.cover.proofs.Fitting.{term-is-used}
 
 further : (i k : ℕ) → i + suc k ≡ i + 1 + k

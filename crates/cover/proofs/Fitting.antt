@@ -1,6 +1,6 @@
 -- A sound record's question fits a record, and so does its form: a form has no more variables than places, and its
 -- variables are the numbers below. Assumes nothing.
-use mathlib.Core.Path.{_≡_, refl, sym, ap, subst}
+use mathlib.Core.Path.{_≡_, refl, sym, subst}
 use mathlib.Core.Bool.{Bool, true, false, cond, not, _&&_}
 use mathlib.Core.Logic.{_⊎_, inl, inr}
 use mathlib.Core.List.{List, [], _∷_, List·Memᴰ·head, List·Memᴰ·tail, List·Memᴰ·not-nil}
@@ -20,12 +20,8 @@ use Rattle.cover.proofs.Lists.{decide, clash, cond-yes, cond-no, fst-of
 use Rattle.cover.proofs.Terms.{terms-in}
 use Rattle.cover.proofs.Form.{dedup-out, firsts-in}
 use Rattle.cover.proofs.Bytes.{term-var, term-con, atom-used}
+use Rattle.cover.proofs.Lengths.{question-count}
 use Rattle.cover.proofs.RoundTrip.{Apart}
-
-pub count-atoms : (L : Layout) (B : List ℕ) (n i : ℕ) → length (atomsAt L B i n) ≡ n
-unfolding atomsAt
-count-atoms L B zero i = refl
-count-atoms L B (suc n) i = ap suc (count-atoms L B n (i + size L))
 
 module _ (L : Layout) (ap-L : Apart L) where
   term-fits : (b : ℕ) → T (isTerm L b) → TermFits L (termOf b)
@@ -111,7 +107,7 @@ module _ (L : Layout) (ap-L : Apart L) where
       pub sound-fits : Sound L B → Fits L (questionOf L B)
       unfolding questionOf
       sound-fits s =
-          let e = count-atoms L B (getD B 0 0) 1 in
+          let e = question-count L B in
           record {
             some-atom = rw e (s .some-atom);
             most = rw e (s .most);

@@ -7,11 +7,15 @@ pub mod First
 pub mod Form
 pub mod Same
 pub mod Bytes
+pub mod Places
+pub mod Copied
 pub mod Maps
 pub mod Steps
 pub mod Answers
+pub mod Lengths
 pub mod RoundTrip
 pub mod Padded
+pub mod Begun
 pub mod Leftward
 pub mod Fitting
 pub mod Renaming

@@ -5,9 +5,10 @@ use mathlib.Core.Logic.{_⊎_, inl, inr}
 use mathlib.Core.List.{List, [], _∷_, _++_, map, List·Memᴰ·head, List·Memᴰ·tail, List·Memᴰ·not-nil, Memᴰ·of-map}
 use mathlib.Core.List.{Memᴰ·cast}
 use mathlib.Core.Option.{Option, none, some}
-use Prim.Native.Nat.{ℕ, _+_}
+use Prim.Native.Nat.{ℕ, _≤_}
 use native.Mathlib.Omega.{arith}
 use lib.Dec.{T}
+use lib.ListN.{length}
 use Rattle.cover.specs.Lists.{_∈_, Distinct, any, all, keep, isSome, orElse, firstOf}
 
 -- tests
@@ -102,6 +103,15 @@ module _ {A : Type 0} where
   pub cond-no : (b : Bool) (x y : A) → T (not b) → cond b x y ≡ y
   cond-no true x y t = absurd t
   cond-no false x y t = refl
+
+-- what has a member is not empty, and what is not empty has one
+pub in-some : {A : Type 0} {a : A} (l : List A) → a ∈ l → 1 ≤ length l
+in-some [] m = absurd (List·Memᴰ·not-nil m)
+in-some (x ∷ l) m = omega arith
+
+pub first-in : {A : Type 0} (l : List A) → 1 ≤ length l → (a : A) × (a ∈ l)
+first-in [] h = absurd (omega arith)
+first-in (a ∷ l) h = (a, List·Memᴰ·head refl)
 
 module _ {A : Type 0} where
   -- any and all

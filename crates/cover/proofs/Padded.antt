@@ -2,7 +2,7 @@
 -- makes the record of one atom more. Assumes nothing.
 use mathlib.Core.Path.{_≡_, refl, sym, _∙_, ap, ap₂, subst}
 use mathlib.Core.List.{List, [], _∷_, _++_, append-assoc, append-nil}
-use Prim.Native.Nat.{ℕ, zero, suc, _+_, _*_, _-_, _≤_, _<_}
+use Prim.Native.Nat.{ℕ, suc, _+_, _*_, _-_, _≤_, _<_}
 use native.Mathlib.Omega.{arith}
 use native.Mathlib.Numerals.{add-one}
 use lib.Dec.{T}
@@ -10,32 +10,14 @@ use lib.ListN.{length, getD, take, drop, set, replicate, length-append, length-d
 use lib.ListN.{replicate-append-replicate}
 use lib.Seq.{paste, paste-suc, take-at, drop-append-add, drop-at, getD-drop}
 use Rattle.cover.specs.Lists.{_∈_, gather}
-use Rattle.cover.specs.Term.{Term, Atom, Question}
-use Rattle.cover.specs.Record.{Layout, desk, size, atomsAt, areAtoms, questionOf, placesBytes, atomBytes}
-use Rattle.cover.specs.Record.{recordBytes, heldIn, AtomFits, Fits, Sound, Room}
+use Rattle.cover.specs.Term.{Atom, Question}
+use Rattle.cover.specs.Record.{Layout, desk, size, atomsAt, areAtoms, questionOf, atomBytes, recordBytes}
+use Rattle.cover.specs.Record.{heldIn, AtomFits, Fits, Sound, Room}
+use Rattle.cover.proofs.Lengths.{atoms-long, record-long}
 use Rattle.cover.proofs.RoundTrip.{Apart, atoms-read}
 
 pub desk-apart : Apart desk
 desk-apart = record { variables = omega arith; constants = omega arith }
-
--- how long a record is
-places-long : (w : ℕ) (ts : List Term) → length (placesBytes w ts) ≡ w
-places-long zero ts = refl
-places-long (suc w) [] = ap suc (places-long w [])
-places-long (suc w) (t ∷ ts) = ap suc (places-long w ts)
-
-pub atom-long : (L : Layout) (a : Atom) → length (atomBytes L a) ≡ size L
-unfolding atomBytes
-atom-long L a = let e = places-long (L .places) (a .args) in omega arith
-
-atoms-long : (L : Layout) (A : Question) → length (gather (atomBytes L) A) ≡ length A * size L
-atoms-long L [] = omega arith
-atoms-long L (a ∷ A) =
-    length-append (atomBytes L a) (gather (atomBytes L) A) ∙ omega (arith, atom-long L a, atoms-long L A)
-
-record-long : (L : Layout) (A : Question) → length (recordBytes L A) ≡ 1 + length A * size L
-unfolding recordBytes
-record-long L A = ap suc (atoms-long L A) ∙ omega arith
 
 module _ (L : Layout) (n : ℕ) (A : Question) where
   pub held-count : getD (heldIn L n A) 0 0 ≡ length A

@@ -12,7 +12,7 @@ use native.Mathlib.Nat.{add-zero}
 use native.Mathlib.Numerals.{add-one}
 use borrow.Author.Tests.{ltb-true, ltb-false, eq-eqb, ne-eqb}
 use lib.Dec.{T, eqb, ltb, leb, lt→ltb, le→leb, eqb→eq}
-use lib.ListN.{length, getD, take, drop, length-append, length-drop}
+use lib.ListN.{length, getD, take, drop, length-drop}
 use lib.Seq.{drop-cons, take-add, take-all, drop-drop}
 use Rattle.cover.specs.Lists.{_∈_, gather}
 use Rattle.cover.specs.Term.{Term, var, con, Atom, Question}
@@ -22,6 +22,7 @@ use Rattle.cover.specs.Record.{Sound, byteOf, placesBytes, atomBytes, re
 use Rattle.cover.proofs.Lists.{either, both, fst-of, snd-of, or-left, or-right, true→T, T→true, none≢some}
 use Rattle.cover.proofs.Terms.{atom-path}
 use Rattle.cover.proofs.Bytes.{term-var, term-con, atom-used, record-fits, record-sound, record-length}
+use Rattle.cover.proofs.Lengths.{count-atoms, record-long}
 use Rattle.cover.proofs.Answers.{record-of, no-record}
 
 -- bytes tell variables from constants, and 255 is neither
@@ -161,20 +162,6 @@ module _ (L : Layout) (ap-L : Apart L) (B : List ℕ) where
       let r = atoms-read (i + size L) A R (λ b m. fits b (List·Memᴰ·tail m)) (f .2) in
       (ap₂ _∷_ (f .0) (r .0), both (isAtom L B i) _ (f .1) (r .1))
 
-places-length : (w : ℕ) (ts : List Term) → length (placesBytes w ts) ≡ w
-places-length zero ts = refl
-places-length (suc w) [] = ap suc (places-length w [])
-places-length (suc w) (t ∷ ts) = ap suc (places-length w ts)
-
-atom-length : (L : Layout) (a : Atom) → length (atomBytes L a) ≡ size L
-unfolding atomBytes
-atom-length L a = let e = places-length (L .places) (a .args) in omega arith
-
-atoms-length : (L : Layout) (A : Question) → length (gather (atomBytes L) A) ≡ length A * size L
-atoms-length L [] = omega arith
-atoms-length L (a ∷ A) =
-    length-append (atomBytes L a) (gather (atomBytes L) A) ∙ omega (arith, atom-length L a, atoms-length L A)
-
 pub record-round : (L : Layout) → Apart L → (A : Question) → Fits L A → recordOf L (recordBytes L A) ≡ some A
 unfolding recordBytes questionOf
 record-round L ap-L A fits = record-of L B good ∙ ap some (r .0)
@@ -187,7 +174,7 @@ record-round L ap-L A fits = record-of L B good ∙ ap some (r .0)
 
     good : isRecord L B ≡ true
     good =
-        record-fits L B (fits .some-atom) (fits .most) (ap suc (atoms-length L A) ∙ omega arith) ∙ T→true _ (r .1)
+        record-fits L B (fits .some-atom) (fits .most) (record-long L A) ∙ T→true _ (r .1)
 
 -- From bytes to a question and back.
 no-atoms : (s : ℕ) → 0 ≡ 0 * s
@@ -244,11 +231,6 @@ module _ (L : Layout) (ap-L : Apart L) (B : List ℕ) where
       ∙ ap (take (n * size L)) (sym (drop-drop (size L) i B)))
       ∙ sym (take-add (size L) (n * size L) (drop i B))
       ∙ ap (λ m. take m (drop i B)) (one-more n (size L))
-
-count-atoms : (L : Layout) (B : List ℕ) (n i : ℕ) → length (atomsAt L B i n) ≡ n
-unfolding atomsAt
-count-atoms L B zero i = refl
-count-atoms L B (suc n) i = ap suc (count-atoms L B n (i + size L))
 
 pub bytes-round : (L : Layout) → Apart L → (B : List ℕ) (A : Question) → recordOf L B ≡ some A → recordBytes L A ≡ B
 unfolding recordBytes questionOf

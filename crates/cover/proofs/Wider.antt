@@ -2,12 +2,15 @@
 use mathlib.Core.Path.{_≡_, refl, _∙_, ap, ap₂, subst}
 use mathlib.Core.Bool.{Bool, true, false, cond, _&&_, _||_}
 use mathlib.Core.Logic.{_⊎_, inl, inr}
-use mathlib.Core.List.{List, _∷_}
-use Prim.Native.Nat.{ℕ, zero, suc, _+_, _*_, _≤_}
+use mathlib.Core.List.{List, [], _∷_, _++_}
+use Prim.Native.Nat.{ℕ, zero, suc, _+_, _*_, _-_, _≤_}
 use native.Mathlib.Omega.{arith}
 use lib.Dec.{T, eqb, ltb, leb, ltb→lt, lt→ltb, eqb→eq}
-use lib.ListN.{length, getD}
-use Rattle.cover.specs.Record.{Layout, size, atomAt, atomsAt, isTerm, unused, usedFirst, isAtom, areAtoms, AtomIn}
+use lib.ListN.{length, getD, replicate}
+use Rattle.cover.specs.Lists.{gather}
+use Rattle.cover.specs.Term.{Term, var, con, Atom, Question}
+use Rattle.cover.specs.Record.{Layout, size, atomAt, atomsAt, isTerm, unused, usedFirst, isAtom, areAtoms}
+use Rattle.cover.specs.Record.{placesBytes, atomBytes, recordBytes, heldIn, TermFits, AtomFits, Fits}
 use Rattle.cover.specs.Held.{AtomsIn}
 use Rattle.cover.proofs.Lists.{both, fst-of, snd-of, or-cases, or-left, or-right}
 use Rattle.cover.proofs.RoundTrip.{Apart}
@@ -32,6 +35,45 @@ module _ (L M : Layout) (w : Wider L M) where
   atoms-mean B i zero = refl
   atoms-mean B i (suc n) =
       ap₂ _∷_ (atom-means B i) (ap (λ s. atomsAt L B (i + s) n) same-size ∙ atoms-mean B (i + size M) n)
+
+  -- and is written the same
+  atom-written : (a : Atom) → atomBytes L a ≡ atomBytes M a
+  unfolding atomBytes
+  atom-written a = ap (λ (p : ℕ). a .rel ∷ placesBytes p (a .args)) (w .places)
+
+  atoms-written : (A : Question) → gather (atomBytes L) A ≡ gather (atomBytes M) A
+  atoms-written [] = refl
+  atoms-written (a ∷ A) = ap₂ _++_ (atom-written a) (atoms-written A)
+
+  pub record-written : (A : Question) → recordBytes L A ≡ recordBytes M A
+  unfolding recordBytes
+  record-written A = ap (λ (l : List ℕ). length A ∷ l) (atoms-written A)
+
+  pub held-written : (n : ℕ) (A : Question) → heldIn L n A ≡ heldIn M n A
+  unfolding heldIn
+  held-written n A = ap (λ (r : List ℕ). r ++ replicate (n - length r) 255) (record-written A)
+
+  -- what fits the one fits the other, if it has as many atoms
+  term-fits-wider : (t : Term) → TermFits L t → TermFits M t
+  term-fits-wider (var n) h = omega (arith, w .variables)
+  term-fits-wider (con c) h = omega (arith, w .constants)
+
+  pub atom-fits-wider : {a : Atom} → AtomFits L a → AtomFits M a
+  atom-fits-wider f =
+      record {
+        relation = omega (arith, f .relation, w .relations);
+        some-place = f .some-place;
+        places = omega (arith, f .places, w .places);
+        terms = λ t x. term-fits-wider t (f .terms t x);
+      }
+
+  pub fits-wider : {A : Question} → L .atoms ≤ M .atoms → Fits L A → Fits M A
+  fits-wider h f =
+      record {
+        some-atom = f .some-atom;
+        most = omega (arith, f .most);
+        each = λ a m. atom-fits-wider (f .each a m);
+      }
 
   term-wider : (b : ℕ) → T (isTerm L b) → T (isTerm M b)
   unfolding isTerm

@@ -7,7 +7,7 @@ use mathlib.Core.Logic.{_⊎_, inl, inr, _↔_}
 use mathlib.Core.List.{List, [], _∷_, _++_, List·Memᴰ·head, List·Memᴰ·tail, List·Memᴰ·cases-cons, List·Memᴰ·not-nil}
 use mathlib.Core.List.{List·Memᴰ·append-cases, List·Memᴰ·eq-of-singleton}
 use mathlib.Core.Option.{some}
-use Prim.Native.Nat.{ℕ, _+_, _≤_}
+use Prim.Native.Nat.{ℕ, _≤_}
 use native.Mathlib.Omega.{arith}
 use lib.Dec.{T}
 use lib.ListN.{length, length-append}
@@ -79,9 +79,6 @@ module _ (cov : Test) (Cov : Question → Question → Type 0) (decides : (A B :
     new-covered s P = (P, new-in cov s P, itself P)
 
     module _ (lim : Limits) (steps : Question → List Question) (allowed : ℕ) (Q : Question) where
-      abbrev Comes : Position → Type 0
-      Comes p = Reaches cov lim steps allowed Q p
-
       pub members-apart : {p : Position} → Reaches cov lim steps allowed Q p → Apart Cov (stateOf p .members)
       members-apart =
           admissions-keep cov lim steps allowed Q {I = λ s. Apart Cov (s .members)}
@@ -237,12 +234,3 @@ module _ (cov : Test) (Cov : Question → Question → Type 0) (decides : (A B :
           pub taken-good : {M : Question} {Ps : List Question} {s : State} {n : ℕ}
               → Reaches cov lim steps allowed Q (within M Ps s n) → Good M
           taken-good c = explorations-keep cov lim steps allowed Q all-kept c .taken
-
-          -- while it is explored, too, the members are good, and what is yet to come is among its rewritings
-          pub members-good-within : {M : Question} {Ps : List Question} {s : State} {n : ℕ}
-              → Reaches cov lim steps allowed Q (within M Ps s n) → (N : Question) → N ∈ s .members → Good N
-          members-good-within c = explorations-keep cov lim steps allowed Q all-kept c .members
-
-          pub pending-steps : {M : Question} {Ps : List Question} {s : State} {n : ℕ}
-              → Reaches cov lim steps allowed Q (within M Ps s n) → (P : Question) → P ∈ Ps → P ∈ steps M
-          pending-steps c = explorations-keep cov lim steps allowed Q all-kept c .pending

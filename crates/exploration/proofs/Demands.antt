@@ -17,6 +17,7 @@ use Rattle.book.specs.Book.{bookOf}
 use Rattle.book.specs.Verdict.{Sound}
 use Rattle.unify.specs.Step.{listed, rewritings}
 use Rattle.unify.specs.Published.{Publishes}
+use Rattle.unify.proofs.Listed.{rewritings-listed}
 use Rattle.unify.proofs.Exactly.{exactly}
 use Rattle.exploration.specs.Run.{limits, State, complete, apart, allRewritings}
 use Rattle.exploration.specs.Steps.{within, Reaches}
@@ -24,7 +25,6 @@ use Rattle.exploration.specs.Union.{outputSize, unionBytes, membersOf, e
 use Rattle.exploration.specs.Answer.{outcomeOf, Answers}
 use Rattle.exploration.specs.Refusals.{Refuses, Completes}
 use Rattle.exploration.specs.Chain.{Ledger, SomeHolds, Derives, Reached, Apart}
-use Rattle.exploration.proofs.FromUnify.{rewritings-listed}
 use Rattle.exploration.proofs.OfBook.{member-below, taken-member, whole, members-most as most-members, run-answers}
 use Rattle.exploration.proofs.Given.{Whole, all, kind, members-are, refused-exactly, complete-exactly}
 use Rattle.exploration.proofs.Returns.{returns-union}

@@ -23,9 +23,6 @@ takenOf (between s n) = n
 takenOf (within M Ps s n) = n
 
 module _ (cov : Test) (lim : Limits) (steps : Question → List Question) (allowed : ℕ) (Q : Question) where
-  abbrev Comes : Position → Type 0
-  Comes p = Reaches cov lim steps allowed Q p
-
   -- what holds of the first state, and what taking up and admitting keep, holds of every state
   pub record KeptByAdmission (I : State → Type 0) : Type 0 where
     pub first : I (start Q)

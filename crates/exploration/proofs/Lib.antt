@@ -1,10 +1,7 @@
 -- The laws of the exploration, for this crate's proofs and for the crates above.
 
--- laws of the lower crates' notions: sound atoms fit, rewritings are small, what a sound book gives
-pub mod FromCover
-pub mod FromUnify
+-- rewritings are small
 pub mod Small
-pub mod FromBook
 -- one admission; the next rewriting; the run in single steps and where it ends
 pub mod Admits
 pub mod Taking

@@ -15,19 +15,19 @@ use Rattle.cover.proofs.Preorder.{covers-refl, covers-trans}
 use Rattle.cover.proofs.Decides.{covers-decides}
 use Rattle.cover.proofs.Form.{form-equivalent}
 use Rattle.cover.proofs.Same.{form-form}
+use Rattle.cover.proofs.Wider.{Wider, fits-wider}
 use Rattle.book.specs.Rule.{Rule}
 use Rattle.book.specs.Book.{bookOf, layoutOf}
 use Rattle.book.specs.Verdict.{Sound}
-use Rattle.book.proofs.Sound.{sound-header}
+use Rattle.book.proofs.Sound.{own-room, sound-header}
+use Rattle.book.proofs.Fits.{body-some, body-few, body-fits, head-fits, question-some, question-few, question-fits}
 use Rattle.unify.specs.Step.{Below, rewritings}
 use Rattle.unify.proofs.Collected.{gather-in, gather-out}
 use Rattle.exploration.specs.Run.{limits, State, complete, apart, allRewritings, runBy, run}
 use Rattle.exploration.specs.Steps.{within, Reaches}
 use Rattle.exploration.specs.Chain.{SomeHolds, Derives, Reached, first, next}
-use Rattle.exploration.proofs.FromCover.{Narrower, wider-fits}
-use Rattle.exploration.proofs.Small.{roomFor, fits-below, form-fits, rewriting-formed, rewriting-short}
+use Rattle.exploration.proofs.Small.{roomFor, RuleFits, fits-below, form-fits, rewriting-formed, rewriting-short}
 use Rattle.exploration.proofs.Small.{rewriting-fits}
-use Rattle.exploration.proofs.FromBook.{rules-fit, question-some, question-few, question-fits}
 use Rattle.exploration.proofs.Covered.{taken-good}
 use Rattle.exploration.proofs.Left.{Left, complete-left, complete-most, complete-taken}
 use Rattle.exploration.proofs.Derived.{Union, union-answers}
@@ -52,10 +52,22 @@ module _ (B : List ℕ) where
     pub reached : Reached apart (bookOf B .rules) (bookOf B .question) M
 
   module _ (s : Sound B) where
+    -- its rules fit its own layout
+    rules-fit : (r : Rule) → r ∈ bookOf B .rules → RuleFits (layoutOf B) r
+    rules-fit r m =
+        record {
+          some-body = body-some B s r m;
+          few-body = body-few B s r m;
+          body = body-fits B (layoutOf B) (own-room B) s r m;
+          head = head-fits B (layoutOf B) (own-room B) s r m;
+        }
+
     pub first-member : Member (form questionOf)
     first-member =
         record {
-          fits = form-fits (layoutOf B) 8 questionOf (question-some B s) (question-few B s) (question-fits B s);
+          fits =
+              form-fits (layoutOf B) 8 questionOf (question-some B s) (question-few B s)
+              (question-fits B (layoutOf B) (own-room B) s);
           formed = form-form questionOf;
           reached = first refl;
         }
@@ -69,8 +81,8 @@ module _ (B : List ℕ) where
     next-member M m P x few =
         let y = gather-out (λ r. rewritings apart r M) rulesOf x in
         record {
-          fits = rewriting-fits (layoutOf B) {cap = 8} (m .fits) (rules-fit B s (y .0) (y .1)) (y .2) 8 few;
-          formed = rewriting-formed (layoutOf B) {cap = 8} (m .fits) (rules-fit B s (y .0) (y .1)) (y .2);
+          fits = rewriting-fits (layoutOf B) {cap = 8} (m .fits) (rules-fit (y .0) (y .1)) (y .2) 8 few;
+          formed = rewriting-formed (layoutOf B) {cap = 8} (m .fits) (rules-fit (y .0) (y .1)) (y .2);
           reached = next (y .0) (y .1) (member-below m) (m .reached) (y .2);
         }
 
@@ -117,22 +129,22 @@ module _ (B : List ℕ) where
       run-answers = union-answers apart rulesOf questionOf U is-union
 
     -- the desk's record has room for members, and for rewritings of members before they are counted
-    narrower : (m : ℕ) → m ≤ 11 → Narrower (roomFor (layoutOf B) m) desk
-    narrower m h =
+    wider : (m : ℕ) → m ≤ 11 → Wider (roomFor (layoutOf B) m) desk
+    wider m h =
         record {
-          atoms = h;
           relations = sound-header B s .few-relations;
-          places = omega arith;
+          places = refl;
           variables = omega arith;
           constants = sound-header B s .few-constants;
         }
 
     pub desk-fits : {M : Question} → Fits (layoutOf B) M → Fits desk M
-    desk-fits f = wider-fits (narrower 8 (omega arith)) f
+    desk-fits f = fits-wider _ desk (wider 8 (omega arith)) (omega arith) f
 
     pub rewriting-desk : (M : Question) → Fits (layoutOf B) M → (P : Question) → P ∈ allRewritings rulesOf M → Fits desk P
     rewriting-desk M m P x =
         let y = gather-out (λ r. rewritings apart r M) rulesOf x in
-        let f = rules-fit B s (y .0) (y .1) in
+        let f = rules-fit (y .0) (y .1) in
         let h = rewriting-short (layoutOf B) {cap = 8} m f (y .2) in
-        wider-fits (narrower 11 (omega arith)) (rewriting-fits (layoutOf B) {cap = 8} m f (y .2) 11 (omega arith))
+        fits-wider _ desk (wider 11 (omega arith)) (omega arith)
+        (rewriting-fits (layoutOf B) {cap = 8} m f (y .2) 11 (omega arith))

@@ -12,6 +12,7 @@ use Rattle.cover.specs.Lists.{_∈_}
 use Rattle.cover.specs.Term.{Term, var, con, Atom, Question, Sub, on-term, on-atom, terms}
 use Rattle.cover.specs.Form.{dedup, numbering, form}
 use Rattle.cover.specs.Record.{Layout, TermFits, AtomFits, Fits}
+use Rattle.cover.proofs.Lists.{in-some, first-in}
 use Rattle.cover.proofs.Terms.{var≢con, con-inj, terms-in, terms-out}
 use Rattle.cover.proofs.Form.{form-equivalent}
 use Rattle.cover.proofs.Same.{form-form}
@@ -21,7 +22,6 @@ use Rattle.unify.specs.Step.{up, move, Below, rewriting, rewritings}
 use Rattle.unify.proofs.Listed.{Made, rewritings-out}
 use Rattle.unify.proofs.Sizes.{form-length, form-atom, in-form-below, listed-form, listed-length, listed-shape}
 use Rattle.unify.proofs.Sizes.{listed-constant}
-use Rattle.exploration.proofs.FromCover.{in-some, first-in}
 
 -- the layout of questions of at most m atoms in form
 abbrev pub roomFor : Layout → ℕ → Layout

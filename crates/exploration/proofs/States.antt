@@ -2,7 +2,7 @@
 use mathlib.Core.Path.{_≡_, refl, sym, _∙_, ap, subst}
 use mathlib.Core.Bool.{Bool, true, false, cond, not}
 use mathlib.Core.Logic.{_⊎_, inl, inr}
-use mathlib.Core.List.{List, [], _∷_, _++_, append-assoc, append-nil}
+use mathlib.Core.List.{List, [], _∷_, _++_, append-assoc}
 use mathlib.Core.List.{List·Memᴰ·head, List·Memᴰ·tail, List·Memᴰ·append-cases, List·Memᴰ·eq-of-singleton}
 use mathlib.Core.List.{Memᴰ·append-left, Memᴰ·append-right}
 use mathlib.Core.Option.{none, some, Option·some-injective}
@@ -12,7 +12,7 @@ use lib.ListN.{length, take, drop, take-append-drop}
 use lib.Seq.{take-append-seam}
 use Rattle.cover.specs.Lists.{_∈_, keep, head}
 use Rattle.cover.specs.Term.{Question}
-use Rattle.cover.proofs.Lists.{none≢some, cond-yes, cond-no, keep-in, keep-out}
+use Rattle.cover.proofs.Lists.{none≢some, cond-yes, keep-in, keep-out}
 use Rattle.exploration.specs.Run.{Test, State, oldest, takenUp, without, appended}
 
 module _ {A : Type 0} where
@@ -41,22 +41,6 @@ module _ {A : Type 0} where
   head-next (suc n) [] a e = absurd (none≢some e)
   head-next (suc n) (x ∷ l) a e = ap (λ (r : List A). x ∷ r) (head-next n l a e)
 
-  -- judging one more of a list, from the front: it is kept, or it is not
-  pub kept-next : (p : A → Bool) (n : ℕ) (l : List A) (a : A) → head (drop n l) ≡ some a → T (p a)
-      → keep p (take (suc n) l) ≡ keep p (take n l) ++ a ∷ []
-  kept-next p n l a e t =
-      ap (keep p) (head-next n l a e)
-      ∙ keep-append p (take n l) (a ∷ [])
-      ∙ ap (λ (r : List A). keep p (take n l) ++ r) (cond-yes (p a) (a ∷ []) [] t)
-
-  pub kept-not : (p : A → Bool) (n : ℕ) (l : List A) (a : A) → head (drop n l) ≡ some a → T (not (p a))
-      → keep p (take (suc n) l) ≡ keep p (take n l)
-  kept-not p n l a e t =
-      ap (keep p) (head-next n l a e)
-      ∙ keep-append p (take n l) (a ∷ [])
-      ∙ ap (λ (r : List A). keep p (take n l) ++ r) (cond-no (p a) (a ∷ []) [] t)
-      ∙ append-nil (keep p (take n l))
-
   head-in : (n : ℕ) (l : List A) (a : A) → head (drop n l) ≡ some a → a ∈ l
   head-in zero [] a e = absurd (none≢some e)
   head-in zero (x ∷ l) a e = List·Memᴰ·head (sym (Option·some-injective x a e))
@@ -72,11 +56,6 @@ module _ {A : Type 0} where
 -- the explored members
 abbrev pub explored : State → List Question
 explored s = take (s .explored) (s .members)
-
-pub explored-in : (s : State) {N : Question} → N ∈ explored s → N ∈ s .members
-explored-in s {N} m =
-    subst (λ (l : List Question). N ∈ l) (take-append-drop (s .explored) (s .members))
-    (Memᴰ·append-left (drop (s .explored) (s .members)) m)
 
 -- taking up
 module _ (s : State) (M : Question) (e : oldest s ≡ some M) where

@@ -7,9 +7,9 @@ use Prim.Native.Nat.{ℕ, suc}
 use Rattle.cover.specs.Term.{Question}
 use Rattle.book.specs.Rule.{Rule}
 use Rattle.unify.specs.Step.{listed, from, next}
+use Rattle.unify.proofs.Listed.{rewritings-listed}
 use Rattle.unify.proofs.Following.{next-start, next-found, next-none}
 use Rattle.exploration.specs.Run.{apart, allRewritings}
-use Rattle.exploration.proofs.FromUnify.{rewritings-listed}
 
 -- the rewritings of M from choice n of r on, then those of the rules after it
 abbrev pub yetToCome : Question → Rule → ℕ → List Rule → List Question

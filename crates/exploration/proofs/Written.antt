@@ -9,15 +9,13 @@ use lib.Seq.{getD-drop, drop-drop, drop-append-seam}
 use Rattle.cover.specs.Lists.{_∈_, gather}
 use Rattle.cover.specs.Term.{Question}
 use Rattle.cover.specs.Record.{desk, size, atomsAt, atomBytes, recordBytes, Fits}
-use Rattle.cover.proofs.RoundTrip.{Apart, atoms-read}
+use Rattle.cover.proofs.Lengths.{record-is, record-long}
+use Rattle.cover.proofs.RoundTrip.{atoms-read}
+use Rattle.cover.proofs.Padded.{desk-apart}
 use Rattle.book.specs.Word.{byte, word}
+use Rattle.book.proofs.Reading.{word-is}
 use Rattle.exploration.specs.Union.{membersBytes, total, unionBytes, outputSize}
 use Rattle.exploration.specs.Union.{memberEnd, membersFrom, membersOf, exploredOf, totalOf}
-use Rattle.exploration.proofs.FromCover.{record-is, record-size}
-use Rattle.exploration.proofs.FromBook.{word-is}
-
-apart : Apart desk
-apart = record { variables = omega arith; constants = omega arith }
 
 -- lengths
 pub total-is : (U : List Question) → total U ≡ 8 + length (membersBytes U)
@@ -35,7 +33,7 @@ members-length (M ∷ U) m h =
     let one = h M (List·Memᴰ·head refl) in
     let two : length (membersBytes U) ≤ length U * (1 + m * size desk) =
     members-length U m (λ N x. h N (List·Memᴰ·tail x)) in
-    omega (arith, record-size desk M, length-append (recordBytes desk M) (membersBytes U))
+    omega (arith, record-long desk M, length-append (recordBytes desk M) (membersBytes U))
 
 -- "It takes at most 8 + 64 x 41 = 2,632 bytes."
 pub total-most : (U : List Question) → length U ≤ 64 → ((M : Question) → M ∈ U → length M ≤ 8) → total U ≤ outputSize
@@ -77,7 +75,7 @@ module _ (W : List ℕ) where
   members-read i (M ∷ U) R fits e =
       ap₂ _∷_
       (ap (atomsAt desk W (i + 1)) count
-      ∙ atoms-read desk apart W (i + 1) M (membersBytes U ++ R) (fits M (List·Memᴰ·head refl) .each) rest .0)
+      ∙ atoms-read desk desk-apart W (i + 1) M (membersBytes U ++ R) (fits M (List·Memᴰ·head refl) .each) rest .0)
       (ap (λ (k : ℕ). membersFrom W k (length U)) end
       ∙ members-read (i + length (recordBytes desk M)) U R (λ N x. fits N (List·Memᴰ·tail x)) next)
     where
@@ -94,7 +92,7 @@ module _ (W : List ℕ) where
       rest = past i 1 (length M ∷ []) (gather (atomBytes desk) M ++ (membersBytes U ++ R)) refl split
 
       end : memberEnd W i ≡ i + length (recordBytes desk M)
-      end = omega (arith, count, record-size desk M)
+      end = omega (arith, count, record-long desk M)
 
       next : drop (i + length (recordBytes desk M)) W ≡ membersBytes U ++ R
       next = past i (length (recordBytes desk M)) (recordBytes desk M) (membersBytes U ++ R) refl here

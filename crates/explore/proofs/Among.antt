@@ -1,17 +1,17 @@
 -- Laws of taking the next rewriting (`specs/Taking`), rule by rule, and of finding the oldest unexplored member, member
 -- by member. Assumes nothing.
-use mathlib.Core.Path.{_≡_, refl, sym, _∙_, ap, ap₂, subst}
+use mathlib.Core.Path.{_≡_, refl, sym, _∙_, ap, subst}
 use mathlib.Core.Bool.{true, false}
-use mathlib.Core.List.{List, [], _∷_}
+use mathlib.Core.List.{List}
 use mathlib.Core.Option.{Option, none, some}
 use Prim.Native.Nat.{ℕ, zero, suc, _+_, _*_, _-_, _≤_, _<_}
 use native.Mathlib.Omega.{arith}
 use native.Mathlib.Nat.{sub-zero}
-use lib.ListN.{length, getD, drop, replicate}
+use lib.ListN.{length, getD, drop}
 use lib.Seq.{drop-drop}
 use Rattle.cover.specs.Lists.{head}
 use Rattle.cover.specs.Term.{Question}
-use Rattle.cover.specs.Record.{desk, questionOf, heldIn, Sound}
+use Rattle.cover.specs.Record.{desk, questionOf}
 use Rattle.book.specs.Rule.{Rule}
 use Rattle.book.specs.Word.{byte}
 use Rattle.book.specs.declared.Header.{Header}
@@ -27,12 +27,10 @@ use Rattle.unify.specs.Held.{ruleOf, answered, RuleIn, QuestionIn}
 use Rattle.unify.proofs.FromBook.{rule-in, rule-is, found-within}
 use Rattle.unify.specs.Choice.{mostChoices}
 use Rattle.unify.specs.Step.{next}
-use Rattle.explore.specs.declared.Extent.{Extent}
-use Rattle.explore.specs.declared.Taken.{Taken}
-use Rattle.exploration.specs.Run.{State, apart, oldest}
+use Rattle.exploration.specs.Run.{apart}
 use Rattle.explore.specs.Taking.{Numbered, orLater, nextAmong, taken}
 use Rattle.exploration.specs.Union.{membersFrom, firstAt}
-use Rattle.explore.specs.Held.{Standing, stateOf, Working}
+use Rattle.explore.specs.Held.{Standing}
 use Rattle.explore.proofs.Finding.{Here, stands}
 use Rattle.explore.proofs.Removal.{members-more}
 

@@ -2,26 +2,25 @@
 -- array that holds a state is in order, and its state is that one; the removal of all that a rewriting covers.
 -- Assumes nothing.
 use mathlib.Core.Path.{_≡_, refl, sym, _∙_, ap, ap₂, subst}
-use mathlib.Core.List.{List, [], _∷_, _++_, append-assoc}
+use mathlib.Core.List.{List, _∷_, _++_, append-assoc}
 use mathlib.Core.Bool.{not}
-use mathlib.Core.Logic.{_⊎_, inl, inr}
-use Prim.Native.Nat.{ℕ, zero, suc, _+_, _*_, _-_, _≤_, _<_}
+use Prim.Native.Nat.{ℕ, zero, suc, _+_, _*_, _-_, _≤_}
 use native.Mathlib.Omega.{arith}
 use lib.ListN.{length, getD, take, drop, length-append, take-append-drop}
 use lib.Seq.{drop-drop, drop-at, take-at, length-take-le}
-use Rattle.cover.specs.Lists.{_∈_, keep}
+use Rattle.cover.specs.Lists.{_∈_}
 use Rattle.cover.specs.Term.{Question}
 use Rattle.cover.specs.Search.{covers}
 use Rattle.cover.specs.Record.{desk, atomsAt, questionOf, recordBytes, Fits, Sound}
+use Rattle.cover.proofs.Lengths.{count-atoms, record-long}
 use Rattle.cover.proofs.Fitting.{keep-few}
 use Rattle.cover.proofs.Lists.{keep-out}
 use Rattle.book.specs.Word.{byte}
 use Rattle.explore.specs.declared.Extent.{Extent}
 use Rattle.explore.specs.declared.Moved.{Moved}
 use Rattle.exploration.specs.Run.{State, without}
-use Rattle.exploration.specs.Union.{membersBytes, membersFrom, memberEnd, firstAt, total, outputSize}
+use Rattle.exploration.specs.Union.{membersBytes, membersFrom, memberEnd, firstAt, outputSize}
 use Rattle.explore.specs.Held.{Held, Standing, stateOf, Working, Kept, rest}
-use Rattle.exploration.proofs.FromCover.{atoms-count, record-size}
 use Rattle.exploration.proofs.Written.{total-is, total-most}
 use Rattle.explore.proofs.Holding.{members-append}
 use Rattle.explore.proofs.Stand.{held-stands, held-members}
@@ -34,8 +33,8 @@ module _ (W : List ℕ) where
   end-is i =
       omega (
         arith,
-        record-size desk (atomsAt desk W (i + 1) (byte W i)),
-        atoms-count desk W (i + 1) (byte W i),
+        record-long desk (atomsAt desk W (i + 1) (byte W i)),
+        count-atoms desk W (byte W i) (i + 1),
       )
 
   same-place : (i : ℕ) → i ≡ i + 0

@@ -3,22 +3,21 @@ use mathlib.Core.Path.{_≡_, refl, sym, _∙_, ap, ap₂, subst}
 use mathlib.Core.Bool.{not}
 use mathlib.Core.Logic.{_⊎_, inl, inr}
 use mathlib.Core.List.{List, [], _∷_, _++_, List·Memᴰ·append-cases, List·Memᴰ·eq-of-singleton}
-use Prim.Native.Nat.{ℕ, _+_, _*_, _≤_, _<_}
+use Prim.Native.Nat.{ℕ, _+_, _≤_, _<_}
 use native.Mathlib.Omega.{arith}
 use borrow.Author.Tests.{le-ltb, lt-ltb}
 use lib.Dec.{T, ltb}
-use lib.ListN.{length, getD, take, drop, length-append}
+use lib.ListN.{length, take, drop, length-append}
 use Rattle.cover.specs.Lists.{_∈_}
 use Rattle.cover.specs.Term.{Question}
 use Rattle.cover.specs.Search.{covers}
 use Rattle.cover.specs.Record.{desk, recordBytes, Fits}
 use Rattle.cover.proofs.Lists.{true→T, false→T}
 use Rattle.explore.specs.declared.Extent.{Extent}
-use Rattle.explore.specs.declared.Fate.{Fate}
 use Rattle.explore.specs.declared.Fate.the-variants.{Dropped, Appended, Refused}
-use Rattle.exploration.specs.Run.{State, limits, too-long, no-room, covered, without, appended, admitted, admit}
-use Rattle.exploration.specs.Steps.{New, Admitted}
-use Rattle.exploration.specs.Union.{membersBytes, membersFrom, firstAt, total, outputSize}
+use Rattle.exploration.specs.Run.{State, limits, too-long, no-room, covered, without, appended, admitted}
+use Rattle.exploration.specs.Steps.{New}
+use Rattle.exploration.specs.Union.{membersBytes, membersFrom, firstAt, outputSize}
 use Rattle.explore.specs.Held.{Held, stateOf, Working, beforeCovering, rest, FateIs}
 use Rattle.exploration.proofs.Admits.{was-covered, was-long, was-full, was-admitted, admit-is}
 use Rattle.explore.proofs.Array.{members-count, state-held, held-working, len-most}

@@ -2,18 +2,21 @@
 use mathlib.Core.Path.{_≡_, refl, sym, _∙_, ap, ap₂, subst}
 use mathlib.Core.Bool.{Bool, true, false, cond, _||_}
 use mathlib.Core.List.{List, [], _∷_}
-use Prim.Native.Nat.{ℕ, zero, suc, _+_, _*_, _-_, _≤_, _<_}
+use Prim.Native.Nat.{ℕ, suc, _+_, _*_, _-_, _≤_, _<_}
 use native.Mathlib.Omega.{arith}
 use native.Mathlib.Nat.{sub-eq-zero-of-le}
 use borrow.Author.Tests.{lt-ltb}
-use lib.Dec.{ltb, eqb, leb·suc-suc}
+use lib.Dec.{ltb, leb·suc-suc}
 use lib.ListN.{length, getD, take, drop, length-drop}
 use lib.Seq.{getD-drop, take-all}
 use Rattle.cover.specs.Lists.{any}
 use Rattle.cover.specs.Term.{Atom, Question}
 use Rattle.cover.specs.Search.{covers, coversOn}
-use Rattle.cover.specs.Record.{desk, argsAt, atomAt, atomsAt, questionOf, termOf, Sound}
+use Rattle.cover.specs.Record.{desk, atomAt, atomsAt, questionOf, Sound}
 use Rattle.cover.proofs.Decides.{covers-any}
+use Rattle.cover.proofs.Places.{question-at}
+use Rattle.cover.proofs.Copied.{atoms-copied}
+use Rattle.cover.proofs.Steps.{atoms-none, atoms-more}
 use Rattle.book.specs.Word.{byte}
 use Rattle.exploration.specs.Run.{Test, covered}
 use Rattle.exploration.specs.Union.{membersFrom, memberEnd}
@@ -24,46 +27,27 @@ one-more n i h = omega arith
 
 -- a question read from a place on is read from the part of the buffer that starts there
 module _ (W : List ℕ) (i : ℕ) where
-  args-from : (j w : ℕ) → argsAt (drop i W) j w ≡ argsAt W (i + j) w
-  unfolding argsAt
-  args-from j zero = refl
-  args-from j (suc w) =
-      ap₂
-      (λ b l. let r = termOf b ∷ l in cond (eqb b 255) [] r)
-      (getD-drop i W j 0)
-      (args-from (j + 1) w ∙ ap (λ (k : ℕ). argsAt W k w) (omega arith))
-
-  atom-from : (j : ℕ) → atomAt desk (drop i W) j ≡ atomAt desk W (i + j)
-  unfolding atomAt
-  atom-from j =
-      ap₂ (λ r l. record { rel = r; args = l }) (getD-drop i W j 0)
-      (args-from (j + 1) 4 ∙ ap (λ (k : ℕ). argsAt W k 4) (omega arith))
-
   atoms-from : (j n : ℕ) → atomsAt desk (drop i W) j n ≡ atomsAt desk W (i + j) n
-  unfolding atomsAt
-  atoms-from j zero = refl
-  atoms-from j (suc n) =
-      ap₂ _∷_ (atom-from j) (atoms-from (j + 5) n ∙ ap (λ (k : ℕ). atomsAt desk W k n) (omega arith))
+  atoms-from j n =
+      atoms-copied desk W (drop i W) (omega arith) j (i + j) n
+      (λ v l. getD-drop i W (j + v) 0 ∙ ap (λ (k : ℕ). getD W k 0) (omega arith))
 
   pub count-from : getD (drop i W) 0 0 ≡ byte W i
   count-from = getD-drop i W 0 0 ∙ ap (λ (k : ℕ). getD W k 0) (omega arith)
 
   pub question-from : questionOf desk (drop i W) ≡ atomsAt desk W (i + 1) (byte W i)
-  unfolding questionOf
-  question-from = ap (atomsAt desk (drop i W) 1) count-from ∙ atoms-from 1 (byte W i)
+  question-from = question-at desk (drop i W) count-from ∙ atoms-from 1 (byte W i)
 
 -- one candidate more
 module _ (f : Atom → Bool) (B : List ℕ) (k w : ℕ) where
   pub any-end : w ≤ k → any f (atomsAt desk B (1 + k * 5) (w - k)) ≡ false
-  unfolding atomsAt
-  any-end h = ap (λ (n : ℕ). any f (atomsAt desk B (1 + k * 5) n)) (sub-eq-zero-of-le h)
+  any-end h = ap (any f) (atoms-none desk B (1 + k * 5) (w - k) (sub-eq-zero-of-le h))
 
   any-next : k < w → any f (atomsAt desk B (1 + k * 5) (w - k))
       ≡ (f (atomAt desk B (1 + k * 5)) || any f (atomsAt desk B (1 + (k + 1) * 5) (w - (k + 1))))
-  unfolding atomsAt
   any-next h =
-      ap (λ (n : ℕ). any f (atomsAt desk B (1 + k * 5) n)) (one-more w k h)
-      ∙ ap (λ (m : ℕ). f (atomAt desk B (1 + k * 5)) || any f (atomsAt desk B m (w - (k + 1)))) (omega arith)
+      ap (any f) (atoms-more desk B (1 + k * 5) (w - k) (omega arith))
+      ∙ ap₂ (λ (m n : ℕ). f (atomAt desk B (1 + k * 5)) || any f (atomsAt desk B m n)) (omega arith) (omega arith)
 
   pub any-hit : k < w → f (atomAt desk B (1 + k * 5)) ≡ true → any f (atomsAt desk B (1 + k * 5) (w - k)) ≡ true
   any-hit h e = any-next h ∙ ap (λ (b : Bool). b || any f (atomsAt desk B (1 + (k + 1) * 5) (w - (k + 1)))) e
@@ -76,18 +60,18 @@ module _ (f : Atom → Bool) (B : List ℕ) (k w : ℕ) where
 pub covers-one : (M C : List ℕ) → Sound desk M
     → covers (questionOf desk M) (questionOf desk C)
     ≡ any (coversOn (questionOf desk M) (questionOf desk C)) (atomsAt desk C (1 + 0 * 5) (getD C 0 0 - 0))
-unfolding questionOf atomsAt
 covers-one M C s =
-    ap (λ (n : ℕ). covers (atomsAt desk M 1 n) (questionOf desk C)) some
+    ap (λ (A : Question). covers A (questionOf desk C)) split
     ∙ covers-any (atomAt desk M 1) (atomsAt desk M 6 (getD M 0 0 - 1)) (questionOf desk C)
-    ∙ ap (λ (n : ℕ). any (coversOn (atomsAt desk M 1 n) (questionOf desk C)) (questionOf desk C)) (sym some)
-    ∙ ap (λ (n : ℕ). any (coversOn (questionOf desk M) (questionOf desk C)) (atomsAt desk C 1 n)) whole
+    ∙ ap (λ (A : Question). any (coversOn A (questionOf desk C)) (questionOf desk C)) (sym split)
+    ∙ ap (any (coversOn (questionOf desk M) (questionOf desk C)))
+    (question-at desk C refl ∙ ap (atomsAt desk C 1) whole)
   where
     whole : getD C 0 0 ≡ getD C 0 0 - 0
     whole = omega arith
 
-    some : getD M 0 0 ≡ suc (getD M 0 0 - 1)
-    some = omega (arith, s .some-atom)
+    split : questionOf desk M ≡ atomAt desk M 1 ∷ atomsAt desk M 6 (getD M 0 0 - 1)
+    split = question-at desk M refl ∙ atoms-more desk M 1 (getD M 0 0) (s .some-atom)
 
 end-is : (W : List ℕ) (at : ℕ) → memberEnd W at ≡ at + (1 + byte W at * 5)
 end-is W at = omega arith

@@ -1,29 +1,19 @@
 -- The exploration of one member, midway: what the loop of `explore` keeps, and its turns. Assumes nothing.
-use mathlib.Core.Path.{_≡_, refl, sym, _∙_, ap, ap₂, subst}
-use mathlib.Core.Bool.{Bool, true, false}
+use mathlib.Core.Path.{_≡_, refl, sym, _∙_, ap, subst}
+use mathlib.Core.Bool.{true, false}
 use mathlib.Core.List.{List, [], _∷_, List·Memᴰ·head, List·Memᴰ·tail}
-use Prim.Native.Nat.{ℕ, suc, _+_, _*_, _≤_, _<_}
+use Prim.Native.Nat.{ℕ, _+_, _<_}
 use native.Mathlib.Omega.{arith}
 use lib.ListN.{length, drop}
 use Rattle.cover.specs.Lists.{_∈_}
 use Rattle.cover.specs.Term.{Question}
 use Rattle.cover.specs.Search.{covers}
-use Rattle.cover.specs.Record.{desk, questionOf, heldIn, Fits, Sound}
-use Rattle.cover.proofs.Fitting.{sound-fits}
-use Rattle.cover.proofs.Padded.{desk-apart, held-question, held-sound}
 use Rattle.book.specs.Rule.{Rule}
-use Rattle.book.specs.Book.{bookOf, layoutOf}
-use Rattle.book.specs.Verdict.{Sound as SoundBook}
-use Rattle.unify.specs.Step.{rewritings}
-use Rattle.unify.specs.Held.{inBook}
-use Rattle.unify.proofs.Collected.{gather-out}
 use Rattle.explore.specs.declared.Extent.{Extent}
 use Rattle.explore.specs.declared.Taken.{Taken}
-use Rattle.explore.specs.declared.Fate.{Fate}
 use Rattle.explore.specs.declared.Fate.the-variants.{Dropped, Appended, Refused}
-use Rattle.explore.specs.declared.Explored.{Explored}
 use Rattle.explore.specs.declared.Explored.the-variants.{Passed, Refused as NotExplored}
-use Rattle.exploration.specs.Run.{limits, through, apart, allRewritings}
+use Rattle.exploration.specs.Run.{limits, through, allRewritings}
 use Rattle.explore.specs.Held.{stateOf, Working, FateIs, ExploredIs}
 use Rattle.exploration.proofs.Admits.{through-none}
 use Rattle.exploration.proofs.Turns.{turn-dropped, turn-refused, turn-appended, turn-stopped}

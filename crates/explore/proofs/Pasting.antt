@@ -1,17 +1,12 @@
--- Laws of a copy into a working array (`paste`), and of the record that a buffer begins with. Assumes nothing.
-use mathlib.Core.Path.{_≡_, sym, _∙_, ap, ap₂, subst}
-use mathlib.Core.List.{List, _∷_, _++_, append-assoc}
-use Prim.Native.Nat.{ℕ, suc, _+_, _*_, _-_, _/_, _%_, _≤_, _<_}
+-- Laws of a copy into a working array (`paste`). Assumes nothing.
+use mathlib.Core.Path.{_≡_, sym, _∙_, ap, subst}
+use mathlib.Core.List.{List, _++_, append-assoc}
+use Prim.Native.Nat.{ℕ, _+_, _-_, _/_, _%_, _≤_, _<_}
 use native.Mathlib.Omega.{arith}
-use native.Mathlib.Nat.{zero-add}
 use native.Mathlib.Numerals.{add-one}
-use lib.ListN.{length, getD, set, take, drop, replicate}
-use lib.Seq.{paste, paste-suc, drop-paste, getD-drop, drop-cons, drop-drop, sets-eq}
-use Rattle.cover.specs.Record.{desk, size, questionOf, recordBytes, heldIn, Sound}
-use Rattle.cover.proofs.RoundTrip.{atoms-back}
-use Rattle.cover.proofs.Padded.{desk-apart, rest-free}
+use lib.ListN.{length, getD, set, take, drop}
+use lib.Seq.{paste, paste-suc, drop-paste, getD-drop, drop-drop, sets-eq}
 use Rattle.exploration.specs.Union.{wordBytes}
-use Rattle.exploration.proofs.FromCover.{atoms-count, record-size}
 
 -- one byte more is copied
 pub paste-more : (d : List ℕ) (at : ℕ) (s : List ℕ) (j k : ℕ) → at + j ≡ k → k < length d → j < length s
@@ -32,32 +27,6 @@ paste-past d at s n k hd hs h =
   where
     e : k ≡ at + n + (k - (at + n))
     e = omega arith
-
--- the record that a sound buffer begins with is the record of its question
-pub begun-record : (B : List ℕ) → Sound desk B
-    → take (1 + getD B 0 0 * size desk) B ≡ recordBytes desk (questionOf desk B)
-unfolding recordBytes questionOf
-begun-record B s =
-    ap (λ (m : ℕ). take m B) one
-    ∙ ap (take (suc (getD B 0 0 * size desk))) (drop-cons B 0 0 (omega (arith, s .fits)))
-    ∙ ap₂ _∷_ (sym (atoms-count desk B 1 (getD B 0 0)))
-    (sym (atoms-back desk desk-apart B (getD B 0 0) 1 (s .fits) (s .atoms)))
-  where
-    one : 1 + getD B 0 0 * size desk ≡ suc (getD B 0 0 * size desk)
-    one = omega arith
-
-pub begun-width : (B : List ℕ) → length (recordBytes desk (questionOf desk B)) ≡ 1 + getD B 0 0 * 5
-unfolding questionOf
-begun-width B = record-size desk (questionOf desk B) ∙ ap (λ (n : ℕ). 1 + n * 5) (atoms-count desk B 1 (getD B 0 0))
-
--- copied to the front of 56 bytes of 255 it is the record that they hold
-pub copied-record : (B : List ℕ) → Sound desk B
-    → paste (replicate 56 255) 0 B (1 + getD B 0 0 * 5) ≡ heldIn desk 56 (questionOf desk B)
-unfolding heldIn
-copied-record B s =
-    ap₂ (λ (l r : List ℕ). l ++ r) (begun-record B s)
-    (rest-free (0 + (1 + getD B 0 0 * 5)) 56 (omega (arith, s .most))
-    ∙ ap (λ (n : ℕ). replicate (56 - n) 255) (zero-add (1 + getD B 0 0 * 5) ∙ sym (begun-width B)))
 
 -- two bytes stored one after the other are a word
 pub word-put : (W : List ℕ) (at n : ℕ) → at + 2 ≤ length W

@@ -1,27 +1,23 @@
 -- Records of 56 bytes: that of a question that fits, of a member and of a rewriting of a member. Assumes nothing.
-use mathlib.Core.Path.{_≡_}
+use mathlib.Core.Path.{_≡_, refl, subst}
 use mathlib.Core.List.{List}
 use Prim.Native.Nat.{ℕ}
 use native.Mathlib.Omega.{arith}
-use lib.ListN.{length, getD}
 use Rattle.cover.specs.Lists.{_∈_}
 use Rattle.cover.specs.Term.{Question}
-use Rattle.cover.specs.Record.{desk, questionOf, heldIn, recordBytes, atomBytes, Fits, Sound}
-use Rattle.cover.proofs.Fitting.{count-atoms, sound-fits}
+use Rattle.cover.specs.Record.{desk, questionOf, heldIn, Fits, Sound}
+use Rattle.cover.proofs.Fitting.{sound-fits}
 use Rattle.cover.proofs.Padded.{desk-apart, held-question, held-sound}
+use Rattle.cover.proofs.Wider.{Wider, fits-wider, held-written}
 use Rattle.book.specs.Book.{bookOf, layoutOf}
 use Rattle.book.specs.Verdict.{Sound as SoundBook}
 use Rattle.book.proofs.Sound.{sound-header}
 use Rattle.unify.specs.Held.{inBook, QuestionIn}
+use Rattle.unify.proofs.Written.{book-desk}
 use Rattle.exploration.specs.Run.{allRewritings}
-use Rattle.exploration.proofs.FromCover.{wider-fits}
 use Rattle.exploration.proofs.OfBook.{desk-fits, rewriting-desk}
 
--- a record's count byte is its question's number of atoms, and its question fits
-pub record-count : (R : List ℕ) → length (questionOf desk R) ≡ getD R 0 0
-unfolding questionOf
-record-count R = count-atoms desk R (getD R 0 0) 1
-
+-- a sound record's question fits
 pub record-fits : (R : List ℕ) → Sound desk R → Fits desk (questionOf desk R)
 record-fits R s = sound-fits desk desk-apart R (omega arith) s
 
@@ -41,22 +37,22 @@ module _ (B : List ℕ) (s : SoundBook B) (M : Question) (m : Fits (layoutOf B) 
   member-sound = record-sound M (desk-fits B s m)
 
   listed-fits : Fits inBook M
-  listed-fits =
-      wider-fits
-      (record {
-        atoms = omega arith;
-        relations = sound-header B s .few-relations;
-        places = omega arith;
-        variables = omega arith;
-        constants = sound-header B s .few-constants;
-      })
-      m
+  listed-fits = fits-wider (layoutOf B) inBook book-wider (omega arith) m
+    where
+      book-wider : Wider (layoutOf B) inBook
+      book-wider =
+          record {
+            relations = sound-header B s .few-relations;
+            places = refl;
+            variables = omega arith;
+            constants = sound-header B s .few-constants;
+          }
 
   listed-sound : Sound inBook (heldIn desk 56 M)
-  unfolding heldIn recordBytes atomBytes
   listed-sound =
-      held-sound inBook 56 M (record { variables = omega arith; constants = omega arith }) listed-fits
-      (omega (arith, listed-fits .most))
+      subst (Sound inBook) (held-written inBook desk book-desk 56 M)
+      (held-sound inBook 56 M (record { variables = omega arith; constants = omega arith }) listed-fits
+      (omega (arith, listed-fits .most)))
 
   pub member-in : QuestionIn (heldIn desk 56 M)
   member-in =

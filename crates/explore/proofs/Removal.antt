@@ -2,7 +2,7 @@
 use mathlib.Core.Path.{_≡_, refl, sym, _∙_, ap, ap₂, subst}
 use mathlib.Core.Bool.{Bool, true, false, cond, not}
 use mathlib.Core.List.{List, [], _∷_, _++_, append-assoc, append-nil}
-use Prim.Native.Nat.{ℕ, zero, suc, _+_, _*_, _-_, _≤_, _<_}
+use Prim.Native.Nat.{ℕ, suc, _+_, _*_, _-_, _≤_, _<_}
 use native.Mathlib.Omega.{arith}
 use native.Mathlib.Nat.{sub-zero, sub-eq-zero-of-le}
 use lib.ListN.{length, getD, take, drop, length-append, length-drop}
@@ -10,13 +10,13 @@ use lib.Seq.{drop-drop, drop-at, take-at, length-take-le}
 use Rattle.cover.specs.Term.{Question}
 use Rattle.cover.specs.Search.{covers}
 use Rattle.cover.specs.Record.{desk, questionOf, recordBytes, Sound}
+use Rattle.cover.proofs.Padded.{desk-apart}
+use Rattle.cover.proofs.Begun.{begun-long, begun-record}
 use Rattle.book.specs.Word.{byte}
-use Rattle.explore.specs.declared.Moved.{Moved}
 use Rattle.exploration.specs.Run.{without}
-use Rattle.exploration.specs.Union.{membersBytes, membersFrom, memberEnd}
+use Rattle.exploration.specs.Union.{membersBytes, membersFrom}
 use Rattle.explore.specs.Held.{Standing, Kept}
 use Rattle.explore.proofs.Finding.{Here, stands, question-from, count-from, part-is}
-use Rattle.explore.proofs.Pasting.{begun-record, begun-width}
 
 -- where a member stands, and how many bytes it takes
 abbrev pub next : List ℕ → ℕ → ℕ
@@ -26,9 +26,6 @@ one-more : (n i : ℕ) → i < n → n - i ≡ suc (n - (i + 1))
 one-more n i h = omega arith
 
 module _ (W : List ℕ) (at : ℕ) where
-  abbrev M : Question
-  M = questionOf desk (drop at W)
-
   -- the member at hand and those after it
   pub members-more : (n i : ℕ) → i < n
       → membersFrom W at (n - i) ≡ questionOf desk (drop at W) ∷ membersFrom W (next W at) (n - (i + 1))
@@ -42,11 +39,13 @@ module _ (W : List ℕ) (at : ℕ) where
   members-none n i h = ap (membersFrom W at) (sub-eq-zero-of-le h)
 
   pub member-width : length (recordBytes desk (questionOf desk (drop at W))) ≡ 1 + byte W at * 5
-  member-width = begun-width (drop at W) ∙ ap (λ (n : ℕ). 1 + n * 5) (count-from W at)
+  member-width = begun-long desk (drop at W) ∙ ap (λ (n : ℕ). 1 + n * 5) (count-from W at)
 
   pub member-bytes : Sound desk (drop at W)
       → take (1 + byte W at * 5) (drop at W) ≡ recordBytes desk (questionOf desk (drop at W))
-  member-bytes s = ap (λ (n : ℕ). take (1 + n * 5) (drop at W)) (sym (count-from W at)) ∙ begun-record (drop at W) s
+  member-bytes s =
+      ap (λ (n : ℕ). take (1 + n * 5) (drop at W)) (sym (count-from W at))
+      ∙ begun-record desk (drop at W) desk-apart s
 
 -- The removal midway: i of the n members from `from` on are passed, the next one stands at `at`, the next kept one
 -- goes to `end`, and `kept` were kept. What was kept and what is yet to be judged make up the whole.
@@ -103,9 +102,6 @@ module _ (W : List ℕ) (from to n : ℕ) (P : Question) where
       here = stands W at i n h (m .standing)
 
       -- the member at hand, in the array as it is now
-      pub same-member : questionOf desk (drop at X) ≡ questionOf desk (drop at W)
-      same-member = ap (questionOf desk) (m .same)
-
       pub same-count : getD X at 0 ≡ byte W at
       same-count =
           sym (count-from X at) ∙ ap (λ (l : List ℕ). getD l 0 0) (m .same) ∙ count-from W at

@@ -1,7 +1,7 @@
 -- The run, midway: what the loop of `explore_all` keeps, and its turns. Assumes nothing.
 use mathlib.Core.Path.{_≡_, refl, sym, _∙_, ap, ap₂, subst}
-use mathlib.Core.List.{List, [], _∷_, _++_, List·Memᴰ·head, List·Memᴰ·eq-of-singleton}
-use mathlib.Core.Option.{Option, none, some}
+use mathlib.Core.List.{List, [], _∷_, _++_, List·Memᴰ·eq-of-singleton}
+use mathlib.Core.Option.{none, some}
 use Prim.Native.Nat.{ℕ, zero, suc, _+_, _*_, _-_, _≤_, _<_}
 use native.Mathlib.Omega.{arith}
 use lib.ListN.{length, getD, take, drop}
@@ -10,6 +10,7 @@ use Rattle.cover.specs.Term.{Question}
 use Rattle.cover.specs.Search.{covers}
 use Rattle.cover.specs.Form.{form}
 use Rattle.cover.specs.Record.{desk, questionOf, heldIn, recordBytes, Fits, Sound}
+use Rattle.cover.proofs.Lengths.{question-count, record-long}
 use Rattle.book.specs.declared.Header.{Header}
 use Rattle.book.specs.Header.{HeaderRead}
 use Rattle.book.specs.Book.{bookOf, layoutOf}
@@ -18,16 +19,14 @@ use Rattle.book.proofs.Reading.{book-allowed}
 use Rattle.explore.specs.declared.Extent.{Extent}
 use Rattle.explore.specs.declared.Explored.{Explored}
 use Rattle.explore.specs.declared.Explored.the-variants.{Passed, Refused}
-use Rattle.explore.specs.declared.Ran.{Ran}
 use Rattle.explore.specs.declared.Ran.the-variants.{Complete, Refused as NotRun}
-use Rattle.exploration.specs.Run.{State, limits, none-left, passed, Pass, Outcome, complete, refused, onPass, oldest}
+use Rattle.exploration.specs.Run.{State, limits, none-left, Pass, Outcome, refused, onPass, oldest}
 use Rattle.exploration.specs.Run.{takenUp, start, through, exploring, runBy, allRewritings}
 use Rattle.exploration.specs.Steps.{between, within, Reaches, begins, takes-up}
-use Rattle.exploration.specs.Union.{membersFrom, membersBytes, firstAt, total, outputSize}
+use Rattle.exploration.specs.Union.{firstAt, outputSize}
 use Rattle.exploration.specs.Answer.{outcomeOf}
 use Rattle.explore.specs.Held.{Held, stateOf, Working, MemberIn, ExploredIs, RanIs}
-use Rattle.exploration.proofs.FromCover.{record-size}
-use Rattle.explore.proofs.Records.{record-count, record-sound, record-question, member-question}
+use Rattle.explore.proofs.Records.{record-sound, record-question, member-question}
 use Rattle.exploration.proofs.Written.{total-is}
 use Rattle.explore.proofs.Holding.{held-appended}
 use Rattle.explore.proofs.Array.{members-count, state-held, held-working}
@@ -87,7 +86,7 @@ module _ (B : List ℕ) where
     short = first-member B s .fits .most
 
     room : firstAt + length (recordBytes desk P) ≤ outputSize
-    room = omega (arith, record-size desk P, short)
+    room = omega (arith, record-long desk P, short)
 
     module _ (X : List ℕ) (r : ℕ) (end : r ≡ firstAt + length (recordBytes desk (form (bookOf B .question))))
         (put : X ≡ take firstAt W ++ (recordBytes desk (form (bookOf B .question)) ++ drop r W))
@@ -130,7 +129,7 @@ module _ (B : List ℕ) where
       first-question = ap (questionOf desk) is ∙ record-question P fits
 
       pub first-fits : firstAt + (1 + getD R 0 0 * 5) ≤ length W
-      first-fits = omega (arith, size, record-count R, ap length first-question, short)
+      first-fits = omega (arith, size, question-count desk R, ap length first-question, short)
 
       pub first-running : (X : List ℕ) (r : ℕ) → r ≡ firstAt + length (recordBytes desk (questionOf desk R))
           → X ≡ take firstAt W ++ (recordBytes desk (questionOf desk R) ++ drop r W)

@@ -9,12 +9,13 @@ use lib.Seq.{drop-drop, drop-at, getD-drop}
 use Rattle.cover.specs.Lists.{_∈_}
 use Rattle.cover.specs.Term.{Question}
 use Rattle.cover.specs.Record.{desk, recordBytes, Fits, Sound}
+use Rattle.cover.proofs.Lengths.{record-is, record-long}
 use Rattle.cover.proofs.Padded.{desk-apart}
+use Rattle.cover.proofs.Begun.{begun-sound}
 use Rattle.book.specs.Word.{byte}
 use Rattle.exploration.specs.Run.{State}
 use Rattle.exploration.specs.Union.{membersBytes, membersFrom, memberEnd, firstAt}
 use Rattle.explore.specs.Held.{Held, Standing}
-use Rattle.exploration.proofs.FromCover.{begun-sound, record-is, record-size}
 use Rattle.exploration.proofs.Written.{members-read}
 
 module _ (W : List ℕ) where
@@ -43,7 +44,7 @@ module _ (W : List ℕ) where
           (here ∙ ap (λ (l : List ℕ). l ++ (membersBytes U ++ R)) (record-is desk M))
 
       end : i + length (recordBytes desk M) ≡ memberEnd W i
-      end = omega (arith, count, record-size desk M)
+      end = omega (arith, count, record-long desk M)
 
       next : drop (i + length (recordBytes desk M)) W ≡ membersBytes U ++ R
       next =

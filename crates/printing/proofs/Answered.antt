@@ -4,7 +4,7 @@ use mathlib.Core.Path.{_≡_, refl, sym, _∙_, ap, ap₂, subst}
 use mathlib.Core.Bool.{Bool, cond}
 use mathlib.Core.Logic.{_⊎_, inl, inr}
 use mathlib.Core.List.{List, [], _++_}
-use Prim.Native.Nat.{ℕ, zero, suc, _+_, _^_, _≤_, _<_}
+use Prim.Native.Nat.{ℕ, zero, suc, _^_, _≤_, _<_}
 use native.Mathlib.Omega.{arith}
 use borrow.Author.Tests.{lt-ltb, le-ltb}
 use lib.Dec.{ltb}
@@ -17,7 +17,7 @@ use Rattle.book.proofs.Earliest.{le-or-lt}
 use Rattle.exploration.specs.Answer.{Result, union, refusal, result, Answers}
 use Rattle.explore.specs.Held.{Standing}
 use Rattle.exploration.specs.Union.{outputSize, membersBytes, unionBytes, membersOf, exploredOf}
-use Rattle.exploration.proofs.FromBook.{allowed-few}
+use Rattle.book.proofs.Fits.{allowed-few}
 use Rattle.exploration.proofs.OfBook.{members-most, explored-allowed, desk-fits}
 use Rattle.exploration.proofs.Written.{count-read, offset-read}
 use Rattle.explore.proofs.Stand.{members-stand}

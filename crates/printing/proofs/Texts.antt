@@ -1,12 +1,12 @@
 -- Laws of what is printed of terms, atoms and members that stand in bytes: what is put first and what after it, and
 -- what is known of the bytes after it. Assumes nothing.
-use mathlib.Core.Path.{_≡_, refl, sym, _∙_, ap, subst}
+use mathlib.Core.Path.{_≡_, refl, sym, _∙_, ap, ap₂, subst}
 use mathlib.Core.Bool.{Bool, cond, _&&_}
 use mathlib.Core.List.{List, [], _∷_, _++_}
 use Prim.Native.Nat.{ℕ, suc, _+_, _*_, _-_, _≤_, _<_}
 use native.Mathlib.Omega.{arith}
 use borrow.Author.Tests.{eq-eqb, ne-eqb}
-use lib.Dec.{T, eqb, ltb}
+use lib.Dec.{T, ltb}
 use lib.ListN.{length, getD, take, drop, length-append, length-drop}
 use lib.Seq.{getD-drop}
 use Rattle.cover.specs.Lists.{gather}
@@ -14,6 +14,7 @@ use Rattle.cover.specs.Term.{Term, var, con, Question}
 use Rattle.cover.specs.Record.{desk, termOf, argsAt, atomAt, atomsAt, questionOf, isTerm, usedFirst, isAtom, Sound}
 use Rattle.cover.proofs.Lists.{fst-of, snd-of}
 use Rattle.cover.proofs.Bytes.{term-var, term-con}
+use Rattle.cover.proofs.Places.{args-none, args-step, relation-at, args-at, question-at}
 use Rattle.cover.proofs.Steps.{atoms-none, atoms-more}
 use Rattle.cover.proofs.Fitting.{term-is-used}
 use Rattle.cover.proofs.Padded.{desk-apart}
@@ -56,24 +57,19 @@ module _ (B : List ℕ) (i : ℕ) where
   abbrev b : ℕ
   b = getD B i 0
 
-  args-step : (w : ℕ) → argsAt B i (suc w) ≡ cond (eqb (getD B i 0) 255) [] (termOf (getD B i 0) ∷ argsAt B (i + 1) w)
-  unfolding argsAt
-  args-step w = refl
-
   pub args-next : (w : ℕ) → (getD B i 0 ≡ 255 → ⊥) → argsAt B i (suc w) ≡ termOf (getD B i 0) ∷ argsAt B (i + 1) w
   args-next w used =
-      args-step w ∙ ap (λ (t : Bool). cond t [] (termOf b ∷ argsAt B (i + 1) w)) (ne-eqb b 255 used)
+      args-step B i w ∙ ap (λ (t : Bool). cond t [] (termOf b ∷ argsAt B (i + 1) w)) (ne-eqb b 255 used)
 
   module _ (w : ℕ) where
     pub terms-none : w ≡ 0 → marked (ascii ",") termText (argsAt B i w) ≡ []
-    unfolding argsAt
-    terms-none e = ap (termsText B i) e
+    terms-none e = ap (termsText B i) e ∙ ap (marked (ascii ",") termText) (args-none B i)
 
     pub terms-end : 0 < w → getD B i 0 ≡ 255 → marked (ascii ",") termText (argsAt B i w) ≡ []
     terms-end h e =
         ap (termsText B i) (less-one w h)
         ∙ ap (marked (ascii ",") termText)
-        (args-step (w - 1)
+        (args-step B i (w - 1)
         ∙ ap (λ (t : Bool). cond t [] (termOf b ∷ argsAt B (i + 1) (w - 1))) (eq-eqb b 255 e))
 
     pub terms-more : 0 < w → (getD B i 0 ≡ 255 → ⊥)
@@ -120,8 +116,13 @@ module _ (B : List ℕ) (i : ℕ) where
   atom-is : atomText (atomAt desk B i)
       ≡ ascii "r"
       ++ (decimal (getD B i 0) ++ (ascii "(" ++ (joined (ascii ",") termText (argsAt B (i + 1) 4) ++ ascii ")")))
-  unfolding atomText atomAt
-  atom-is = refl
+  unfolding atomText
+  atom-is =
+      ap₂
+      (λ (r : ℕ) (ts : List Term).
+      ascii "r" ++ (decimal r ++ (ascii "(" ++ (joined (ascii ",") termText ts ++ ascii ")"))))
+      (relation-at desk B i)
+      (args-at desk B i)
 
   pub atom-text : T (isAtom desk B i)
       → atomText (atomAt desk B i)
@@ -176,8 +177,8 @@ module _ (B : List ℕ) (i n : ℕ) where
 -- a member
 module _ (B : List ℕ) (s : Sound desk B) where
   member-is : memberLine (questionOf desk B) ≡ joined (ascii " ") atomText (atomsAt desk B 1 (getD B 0 0)) ++ ascii "\n"
-  unfolding memberLine questionOf
-  member-is = refl
+  unfolding memberLine
+  member-is = ap memberLine (question-at desk B refl)
 
   pub member-text : memberLine (questionOf desk B)
       ≡ (atomText (atomAt desk B 1) ++ marked (ascii " ") atomText (atomsAt desk B 6 (getD B 0 0 - 1))) ++ ascii "\n"

@@ -14,12 +14,14 @@ use lib.Dec.{T, leb, leb→le}
 use lib.ListN.{length, getD, length-append}
 use Rattle.cover.specs.Lists.{_∈_, firstOf, numbers}
 use Rattle.cover.specs.Term.{Term, Atom, Question, on-term, on-atom}
-use Rattle.cover.specs.Record.{desk, atomAt, atomsAt, questionOf, isAtom, areAtoms, recordBytes, atomBytes, heldIn}
+use Rattle.cover.specs.Record.{desk, atomAt, atomsAt, questionOf, isAtom, areAtoms, heldIn}
 use Rattle.cover.specs.Record.{AtomFits, TermFits, Room}
 use Rattle.cover.proofs.Padded.{desk-apart, held-count, held-length, held-question, held-atoms}
-use Rattle.cover.proofs.Fitting.{count-atoms, atom-fits}
+use Rattle.cover.proofs.Places.{question-at}
+use Rattle.cover.proofs.Lengths.{count-atoms, question-count}
+use Rattle.cover.proofs.Fitting.{atom-fits}
 use Rattle.cover.proofs.Terms.{terms-out}
-use Rattle.cover.proofs.Wider.{atom-means}
+use Rattle.cover.proofs.Wider.{atom-means, held-written, atom-fits-wider}
 use Rattle.cover.proofs.Steps.{sound-more}
 use Rattle.book.specs.declared.Parts.{Parts}
 use Rattle.unify.specs.declared.Found.{Found}
@@ -54,16 +56,7 @@ missed-none (some x) r e t =
 
 -- the atoms left
 fits-desk : (a : Atom) → AtomFits inBook a → AtomFits desk a
-fits-desk a f =
-    record { relation = f .relation; some-place = f .some-place; places = f .places; terms = λ t m. wide t (f .terms t m) }
-  where
-    wide : (t : Term) → TermFits inBook t → TermFits desk t
-    wide (Term.var n) h = omega arith
-    wide (Term.con c) h = h
-
-held-both : (A : Question) → heldIn inBook 56 A ≡ heldIn desk 56 A
-unfolding heldIn recordBytes atomBytes
-held-both A = refl
+fits-desk a f = atom-fits-wider inBook desk book-desk f
 
 left-held : (R : List ℕ) (X : Question) → R ≡ heldIn desk 56 X → ((a : Atom) → a ∈ X → AtomFits inBook a)
     → length X ≤ 11 → LeftIn R × (questionOf desk R ≡ X) × (getD R 0 0 ≡ length X)
@@ -87,18 +80,15 @@ left-held R X e each few = (
 
     sound : T (areAtoms inBook R 1 (getD R 0 0))
     sound =
-        subst (λ B. T (areAtoms inBook B 1 (getD B 0 0))) (held-both X ∙ sym e) (held-atoms inBook 56 X book-apart each)
+        subst (λ B. T (areAtoms inBook B 1 (getD B 0 0))) (held-written inBook desk book-desk 56 X ∙ sym e)
+        (held-atoms inBook 56 X book-apart each)
 
 pub left-none : (R : List ℕ) → R ≡ heldIn desk 56 [] → LeftIn R × (questionOf desk R ≡ []) × (getD R 0 0 ≡ 0)
 left-none R e = left-held R [] e (λ a m. absurd (List·Memᴰ·not-nil m)) (omega arith)
 
 left-each : (A : List ℕ) → LeftIn A → (a : Atom) → a ∈ questionOf desk A → AtomFits inBook a
-unfolding questionOf
-left-each A l = all-fit A 1 (getD A 0 0) (l .atoms)
-
-left-counted : (A : List ℕ) → length (questionOf desk A) ≡ getD A 0 0
-unfolding questionOf
-left-counted A = count-atoms desk A (getD A 0 0) 1
+left-each A l a m =
+    all-fit A 1 (getD A 0 0) (l .atoms) a (subst (λ (q : Question). a ∈ q) (question-at desk A refl) m)
 
 pub left-room : (A : List ℕ) → LeftIn A → getD A 0 0 ≤ 7 → Room desk 56 A
 left-room A l few =
@@ -118,7 +108,7 @@ left-put A R a l few f e =
     (r .0, r .1, r .2 ∙ counted)
   where
     counted : length (questionOf desk A ++ a ∷ []) ≡ getD A 0 0 + 1
-    counted = length-append (questionOf desk A) (a ∷ []) ∙ ap (λ n. n + 1) (left-counted A)
+    counted = length-append (questionOf desk A) (a ∷ []) ∙ ap (λ n. n + 1) (question-count desk A)
 
     each : (b : Atom) → b ∈ questionOf desk A ++ a ∷ [] → AtomFits inBook b
     each b m = go (List·Memᴰ·append-cases (questionOf desk A) m)
@@ -312,11 +302,11 @@ module _ (Q B : List ℕ) (p : Parts) (q : QuestionIn Q) (r : RuleIn B p) (A tab
   pub start-next : (from : ℕ)
       → first (tableBuilder 32 (ruleOf B p) from) 0 (questionOf desk A) false (atomsAt desk Q 1 (getD Q 0 0)) (classesOf table)
       ≡ next 32 (ruleOf B p) (questionOf desk Q) from
-  unfolding questionOf ruleIn
+  unfolding ruleIn
   start-next from =
-      rw (left-none A e .1, o)
+      rw (left-none A e .1, o, question-at desk Q refl)
       (sym
-      (next-table 32 32 (ruleOf B p) (questionOf desk Q) from
+      (next-table 32 32 (ruleOf B p) (atomsAt desk Q 1 (getD Q 0 0)) from
       (fits-below _ (all-fit Q 1 (getD Q 0 0) (q .atoms)))
       (fits-below _ (all-fit B (p .body) (p .bodies) (r .body)))
       (fits-below _ (all-fit B (p .head) (p .heads) (r .head)))))

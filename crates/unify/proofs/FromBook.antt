@@ -10,14 +10,14 @@ use lib.Dec.{T}
 use lib.ListN.{length, getD}
 use Rattle.cover.specs.Term.{Question}
 use Rattle.cover.specs.Record.{desk, size, questionOf, areAtoms}
-use Rattle.cover.proofs.Fitting.{count-atoms}
+use Rattle.cover.proofs.Lengths.{count-atoms, question-count}
+use Rattle.cover.proofs.Copied.{Copied, are-copied}
 use Rattle.book.specs.declared.Parts.{Parts}
 use Rattle.book.specs.Header.{rules, atoms, questionAt}
 use Rattle.book.specs.Book.{ruleAt, ruleStart}
 use Rattle.book.specs.Verdict.{Sound}
 use Rattle.book.specs.Parts.{partsAt, QuestionRecord}
 use Rattle.book.proofs.Sound.{Room, sound-header, sound-rule, sound-question, sound-body, sound-head, sound-atoms}
-use Rattle.book.proofs.FromCover.{Copied, are-copied, question-at}
 use Rattle.unify.specs.declared.Found.{Found}
 use Rattle.unify.specs.Choice.{mostChoices}
 use Rattle.unify.specs.Step.{next}
@@ -84,7 +84,7 @@ module _ (Q B : List ℕ) (p : Parts) (q : QuestionIn Q) (r : RuleIn B p) (from 
   heads = count-atoms desk B (p .heads) (p .head)
 
   long : length (questionOf desk Q) ≡ getD Q 0 0
-  long = ap length (question-at desk Q refl) ∙ count-atoms desk Q (getD Q 0 0) 1
+  long = question-count desk Q
 
   pub found-within : (f : Found) → f ≡ answered (next 32 (ruleOf B p) (questionOf desk Q) from) → f .found ≡ true
       → (from ≤ f .choice) × (f .choice < mostChoices)

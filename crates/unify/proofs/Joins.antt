@@ -12,6 +12,7 @@ use Rattle.cover.specs.Term.{on-term, on-atom}
 use Rattle.cover.specs.Record.{Layout, termOf, argsAt, atomAt}
 use Rattle.cover.proofs.Lists.{either}
 use Rattle.cover.proofs.Bytes.{args-more, args-end}
+use Rattle.cover.proofs.Places.{args-none, relation-at, args-at}
 use Rattle.unify.specs.Choice.{placePairs, atomPairs}
 use Rattle.unify.specs.Step.{up}
 use Rattle.unify.specs.Table.{Table, look, joinTable, unifyTable}
@@ -19,8 +20,7 @@ use Rattle.unify.specs.Table.{Table, look, joinTable, unifyTable}
 -- no place is left
 pub joins-done : (F S : List ℕ) (i k w : ℕ) (m : Table) → w ≡ 0
     → unifyTable (placePairs (argsAt F i w) (map (on-term (up 32)) (argsAt S k w))) m ≡ some m
-unfolding argsAt
-joins-done F S i k w m e = rw (e, argsAt)
+joins-done F S i k w m e = rw (e, args-none F i, args-none S k)
 
 -- of w places j are passed
 module _ (F S : List ℕ) (i k j w : ℕ) (lt : j < w) where
@@ -62,13 +62,12 @@ module _ (L : Layout) (F S : List ℕ) (i k : ℕ) (m : Table) where
   pair = unifyTable (atomPairs (atomAt L F i) (on-atom (up 32) (atomAt L S k))) m
 
   pub pairs-apart : (getD F i 0 ≡ getD S k 0 → ⊥) → pair ≡ none
-  unfolding atomAt
-  pairs-apart ne = rw (ne-eqb (getD F i 0) (getD S k 0) ne)
+  pairs-apart ne = rw (relation-at L F i, relation-at L S k, ne-eqb (getD F i 0) (getD S k 0) ne)
 
   pub pairs-meet : getD F i 0 ≡ getD S k 0
       → pair
       ≡ unifyTable
       (placePairs (argsAt F (i + 1) (L .places)) (map (on-term (up 32)) (argsAt S (k + 1) (L .places))))
       m
-  unfolding atomAt
-  pairs-meet e = rw (eq-eqb (getD F i 0) (getD S k 0) e)
+  pairs-meet e =
+      rw (relation-at L F i, relation-at L S k, eq-eqb (getD F i 0) (getD S k 0) e, args-at L F i, args-at L S k)

@@ -3,7 +3,7 @@
 use mathlib.Core.Path.{_≡_, refl, sym, _∙_, ap, ap₂, subst}
 use mathlib.Core.Bool.{not}
 use mathlib.Core.Logic.{_⊎_, inl, inr}
-use mathlib.Core.List.{Memᴰ·map, Memᴰ·of-map}
+use mathlib.Core.List.{map, Memᴰ·map, Memᴰ·of-map}
 use mathlib.Core.Option.{Option, some, Option·some-injective, none}
 use Prim.Native.Nat.{ℕ}
 use lib.Dec.{T}
@@ -110,6 +110,10 @@ listed-in {k} {r} {Q} {n} {P} w =
     h = length (r .head)
 
 -- the rewritings are the list without the numbers
+pub rewritings-listed : (k : ℕ) (r : Rule) (Q : Question) → rewritings k r Q ≡ map (λ e. e .1) (listed k r Q)
+unfolding rewritings
+rewritings-listed k r Q = refl
+
 pub rewritings-out : {k : ℕ} {r : Rule} {Q P : Question} → P ∈ rewritings k r Q → (n : ℕ) × Made k r Q n P
 unfolding rewritings
 rewritings-out {k} {r} {Q} {P} m = go (Memᴰ·of-map (λ (e : ℕ × Question). e .1) (listed k r Q) m)

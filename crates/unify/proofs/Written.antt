@@ -22,7 +22,9 @@ use Rattle.cover.proofs.Terms.{on-atom-comp, on-atom-same}
 use Rattle.cover.proofs.Steps.{atoms-none, atoms-more, sound-more}
 use Rattle.cover.proofs.RoundTrip.{Apart}
 use Rattle.cover.proofs.Padded.{desk-apart, held-count, held-question, held-atoms, held-sound}
-use Rattle.cover.proofs.Fitting.{count-atoms, atom-fits, atoms-fit}
+use Rattle.cover.proofs.Places.{question-at}
+use Rattle.cover.proofs.Lengths.{count-atoms, question-count}
+use Rattle.cover.proofs.Fitting.{atom-fits, atoms-fit}
 use Rattle.cover.proofs.Growing.{Grows, grows-question, grows-room, grows-put}
 use Rattle.cover.proofs.Wider.{Wider, atom-means, atoms-mean, in-wider}
 use Rattle.book.specs.declared.Parts.{Parts}
@@ -85,12 +87,14 @@ module _ (table : List ℕ) (fit : ClassesFit table) (long : length table ≡ 64
 
 -- a record under construction
 filling-grows : (A : List ℕ) (n : ℕ) → Filling A n → Grows desk 56 A (questionOf desk A) n
-unfolding questionOf
 filling-grows A n f =
     record {
       bytes = f .holds;
-      each = λ a m. atoms-fit desk desk-apart A (omega arith) (getD A 0 0) 1 a (f .atoms) m;
-      room = rw (count-atoms desk A (getD A 0 0) 1) (omega (arith, f .room));
+      each =
+          λ a m.
+          atoms-fit desk desk-apart A (omega arith) (getD A 0 0) 1 a (f .atoms)
+          (subst (λ (q : Question). a ∈ q) (question-at desk A refl) m);
+      room = rw (question-count desk A) (omega (arith, f .room));
     }
 
 grows-filling : (B : List ℕ) (A : Question) (n : ℕ) → Grows desk 56 B A n → Filling B n
@@ -270,12 +274,13 @@ module _ (left book table upper : List ℕ) (p : Parts) (li : LeftIn left) (few 
             (rw whole-count (omega (arith, ru .few-body))))
 
         pub whole-question : questionOf desk R₂ ≡ rewriting (tabled (classesOf table)) (questionOf desk left) (move 32 (ruleOf book p))
-        unfolding questionOf ruleIn subOf
+        unfolding ruleIn subOf
         whole-question =
             ap (questionOf desk) whole-bytes
             ∙ held-question desk 56 (L′ ++ B′) desk-apart whole-fit
             ∙ ap₂ (λ x y. x ++ y) of-left of-body
             ∙ sym (map-append (on-atom σ) (atomsAt desk left 1 (getD left 0 0)) (on-question (up 32) body))
+            ∙ ap (λ (q : Question). rewriting σ q (move 32 (ruleOf book p))) (sym (question-at desk left refl))
           where
             σ : Sub
             σ = tabled (classesOf table)

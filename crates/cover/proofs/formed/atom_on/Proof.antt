@@ -10,7 +10,8 @@ use lib.Seq.{ext-getD}
 use Rattle.cover.specs.Term.{on-atom}
 use Rattle.cover.specs.Record.{desk, atomAt, atomBytes}
 use Rattle.cover.specs.Building.{subOf}
-use Rattle.cover.proofs.Padded.{desk-apart, atom-long}
+use Rattle.cover.proofs.Lengths.{atom-long}
+use Rattle.cover.proofs.Padded.{desk-apart}
 use Rattle.cover.proofs.AtomBytes.{place-byte, atom-on-relation, atom-on-place, set-agrees}
 use Rattle.cover.proofs.formed.atom_on.Statement.{statement}
 use Rattle.cover.proofs.formed.atom_on.Tie as tie

@@ -9,8 +9,9 @@ use Rattle.cover.specs.Search.{covers}
 use Rattle.cover.specs.Record.{desk, questionOf, Fits}
 use Rattle.exploration.specs.Union.{membersFrom, firstAt}
 use Rattle.explore.specs.Held.{beforeCovering}
-use Rattle.explore.proofs.Pasting.{begun-width}
-use Rattle.explore.proofs.Records.{record-count, record-fits}
+use Rattle.cover.proofs.Lengths.{question-count}
+use Rattle.cover.proofs.Begun.{begun-long}
+use Rattle.explore.proofs.Records.{record-fits}
 use Rattle.explore.proofs.Array.{stands-all}
 use Rattle.explore.proofs.Fates.{fate-dropped, fate-long, fate-full, room-left, fate-appended}
 use Rattle.explore.proofs.admitting.admit.Statement.{statement}
@@ -36,7 +37,7 @@ first e = e .before .before .member-covering .ensures
 
 -- it is short enough, and there is a working array without what it covers
 short : (r : tie.After-remove-covered) → length (question (looked r)) ≤ 8
-short r = omega (arith, record-count (start (looked r) .args .rewriting .now), r .before .before .if2 .left)
+short r = omega (arith, question-count desk (start (looked r) .args .rewriting .now), r .before .before .if2 .left)
 
 fits : (r : tie.After-remove-covered) → Fits desk (question (looked r))
 fits r = record-fits _ (start (looked r) .pre .1)
@@ -62,7 +63,7 @@ returns-2 : tie.Need-returns-2
 returns-2 c =
     let e = c .before .before in
     fate-long (start e .pre .0) _ _ (first e) (e .if1 .left)
-    (omega (arith, record-count (start e .args .rewriting .now), c .if2 .taken))
+    (omega (arith, question-count desk (start e .args .rewriting .now), c .if2 .taken))
 
 remove-covered-requires : tie.Need-remove-covered-requires
 remove-covered-requires c κs = search needs
@@ -85,7 +86,7 @@ append-requires c κs =
     let room =
     room-left (start e .pre .0) _ _ (first e) (e .if1 .left) (short r) (kept .0) (kept .1) (fits r)
     (c .before .if3 .left) in
-    (start e .pre .1, omega (arith, room, begun-width (start e .args .rewriting .now), kept .0 .held .size))
+    (start e .pre .1, omega (arith, room, begun-long desk (start e .args .rewriting .now), kept .0 .held .size))
 
 add-t6 : tie.Need-add-t6
 add-t6 c = search needs

@@ -3,12 +3,15 @@
 use borrow.Author.Needs.{needs}
 use native.Mathlib.Omega.{arith}
 use native.Mathlib.Nat.{zero-add}
-use mathlib.Core.Path.{_≡_, refl, sym, ap, ap₂, _∙_}
-use mathlib.Core.List.{List, _++_}
+use mathlib.Core.Path.{_≡_, refl, ap, _∙_}
+use mathlib.Core.List.{List}
 use Prim.Native.Nat.{ℕ, _+_, _*_, _-_, _≤_}
-use lib.ListN.{length, set, length-set, getD, take, drop, replicate}
+use lib.ListN.{length, set, length-set, getD, replicate}
 use lib.Seq.{paste, paste-zero}
-use Rattle.explore.proofs.Pasting.{paste-more, copied-record}
+use Rattle.cover.specs.Record.{desk}
+use Rattle.cover.proofs.Padded.{desk-apart}
+use Rattle.cover.proofs.Begun.{begun-held}
+use Rattle.explore.proofs.Pasting.{paste-more}
 use Rattle.explore.proofs.taking_up.copy_record.Statement.{statement}
 use Rattle.explore.proofs.taking_up.copy_record.Tie as tie
 
@@ -62,7 +65,9 @@ returns c =
     let l = c .before in
     let B = l .before .before .args .member .now in
     let end : l .loop .i ≡ 1 + getD B 0 0 * 5 = omega arith in
-    l .loop .inv .2 ∙ ap (paste (replicate 56 255) 0 B) end ∙ copied-record B (l .before .before .pre)
+    l .loop .inv .2
+    ∙ ap (paste (replicate 56 255) 0 B) end
+    ∙ begun-held desk B desk-apart (l .before .before .pre) 56 (omega (arith, l .before .before .pre .most))
 
 pub copy-record-spec : {M : Type 1} → statement M
 copy-record-spec =

@@ -2,13 +2,15 @@
 -- The measure is the number of bytes left.
 use borrow.Author.Needs.{needs}
 use native.Mathlib.Omega.{arith}
-use mathlib.Core.Path.{_≡_, refl, sym, ap, ap₂, _∙_}
+use mathlib.Core.Path.{_≡_, refl, sym, ap, _∙_}
 use mathlib.Core.List.{List, _++_, append-assoc}
 use Prim.Native.Nat.{ℕ, _+_, _*_, _-_, _≤_}
 use lib.ListN.{length, set, length-set, getD, take, drop}
 use lib.Seq.{paste, paste-zero}
 use Rattle.cover.specs.Record.{desk, questionOf, recordBytes}
-use Rattle.explore.proofs.Pasting.{paste-more, begun-record, begun-width}
+use Rattle.cover.proofs.Padded.{desk-apart}
+use Rattle.cover.proofs.Begun.{begun-long, begun-record}
+use Rattle.explore.proofs.Pasting.{paste-more}
 use Rattle.explore.proofs.working.append.Statement.{statement}
 use Rattle.explore.proofs.working.append.Tie as tie
 
@@ -75,10 +77,11 @@ returns c =
     let W = a .work .now in
     let width = 1 + getD B 0 0 * 5 in
     let end : l .loop .i ≡ width = omega arith in (
-      ap (λ (n : ℕ). a .len + n) (sym (begun-width B)),
+      ap (λ (n : ℕ). a .len + n) (sym (begun-long desk B)),
       l .loop .inv .2
           ∙ ap (paste W (a .len) B) end
-          ∙ ap (λ (r : List ℕ). take (a .len) W ++ r ++ drop (a .len + width) W) (begun-record B (l .before .before .pre .0))
+          ∙ ap (λ (r : List ℕ). take (a .len) W ++ r ++ drop (a .len + width) W)
+          (begun-record desk B desk-apart (l .before .before .pre .0))
           ∙ append-assoc (take (a .len) W) (recordBytes desk (questionOf desk B)) (drop (a .len + width) W),
     )
 

@@ -1,39 +1,32 @@
--- Laws of the member record's definitions (`cover`, `specs/Record`): that atoms are sound, from what stands at each
--- place, and how many places an atom uses. They belong to `cover`. Assumes nothing.
-use mathlib.Core.Path.{_≡_, refl, sym, _∙_, ap, ap₂, subst}
+-- Atoms place by place: bytes are a sound atom, and sound atoms, from what stands at each place; how many places an atom
+-- uses; what holds of each of its terms, and of each of n atoms. Assumes nothing.
+use mathlib.Core.Path.{_≡_, refl, sym, _∙_, ap, subst}
 use mathlib.Core.Bool.{Bool, not, true, false, cond, _&&_}
 use mathlib.Core.Logic.{_⊎_, inl, inr}
 use mathlib.Core.List.{List, [], _∷_, List·Memᴰ·not-nil, List·Memᴰ·cases-cons}
-use Prim.Native.Nat.{ℕ, zero, suc, _+_, _*_, _-_, _≤_, _<_}
-use native.Mathlib.Nat.{mul-suc, mul-zero, suc-mul}
+use Prim.Native.Nat.{ℕ, zero, suc, _+_, _*_, _≤_, _<_}
+use native.Mathlib.Nat.{mul-suc, mul-zero}
 use native.Mathlib.Omega.{arith}
 use lib.Dec.{T, eqb, eqb→eq, ltb, leb, lt→ltb, le→leb}
-use borrow.Author.Tests.{eq-eqb, ne-eqb, lt-ltb, le-ltb}
+use borrow.Author.Tests.{eq-eqb, ne-eqb}
 use lib.ListN.{length, getD}
 use Rattle.cover.specs.Lists.{_∈_}
-use Rattle.cover.specs.Term.{Term, var, con, Atom}
-use Rattle.cover.specs.Record.{Layout, size, termOf, argsAt, atomAt, atomsAt, questionOf, isTerm, unused, usedFirst}
-use Rattle.cover.specs.Record.{isAtom, areAtoms}
+use Rattle.cover.specs.Term.{Term, Atom}
+use Rattle.cover.specs.Record.{Layout, size, termOf, argsAt, atomAt, atomsAt, questionOf, isTerm, unused}
+use Rattle.cover.specs.Record.{usedFirst, isAtom, areAtoms}
 use Rattle.cover.proofs.Lists.{decide, clash, both, snd-of, or-left, or-right, cond-yes}
 
+-- a byte that is a term's
 module _ (L : Layout) where
-  pub term-variable : (b : ℕ) → b < L .variables → T (isTerm L b)
+  pub is-variable : (b : ℕ) → b < L .variables → T (isTerm L b)
   unfolding isTerm
-  term-variable b h = or-left (ltb b (L .variables)) (leb 128 b && ltb b (128 + L .constants)) (lt→ltb _ _ h)
+  is-variable b h = or-left (ltb b (L .variables)) (leb 128 b && ltb b (128 + L .constants)) (lt→ltb _ _ h)
 
-  pub term-constant : (b : ℕ) → 128 ≤ b → b < 128 + L .constants → T (isTerm L b)
+  pub is-constant : (b : ℕ) → 128 ≤ b → b < 128 + L .constants → T (isTerm L b)
   unfolding isTerm
-  term-constant b l h =
+  is-constant b l h =
       or-right (ltb b (L .variables)) (leb 128 b && ltb b (128 + L .constants))
       (both (leb 128 b) (ltb b (128 + L .constants)) (le→leb _ _ l) (lt→ltb _ _ h))
-
-pub term-var : (b : ℕ) → b < 128 → termOf b ≡ var b
-unfolding termOf
-term-var b h = rw (lt-ltb b 128 h)
-
-pub term-con : (b : ℕ) → 128 ≤ b → termOf b ≡ con (b - 128)
-unfolding termOf
-term-con b h = rw (le-ltb b 128 h)
 
 -- what holds from the second place on
 later : (P : ℕ → Type 0) (i v : ℕ) → P (i + suc v) → P (i + 1 + v)
@@ -46,7 +39,7 @@ module _ (B : List ℕ) where
   abbrev Empty : ℕ → Type 0
   Empty i = getD B i 0 ≡ 255
 
-  pub all-unused : (i w : ℕ) → ((v : ℕ) → v < w → Empty (i + v)) → T (unused B i w)
+  all-unused : (i w : ℕ) → ((v : ℕ) → v < w → Empty (i + v)) → T (unused B i w)
   unfolding unused
   all-unused i zero f = tt
   all-unused i (suc w) f =
@@ -55,11 +48,11 @@ module _ (B : List ℕ) where
       (all-unused (i + 1) w (λ v l. later Empty i v (f (suc v) (omega arith))))
 
   -- the terms of an atom are those in its used places
-  args-none : (i : ℕ) → argsAt B i 0 ≡ []
+  pub args-none : (i : ℕ) → argsAt B i 0 ≡ []
   unfolding argsAt
   args-none i = refl
 
-  args-step : (i w : ℕ)
+  pub args-step : (i w : ℕ)
       → argsAt B i (suc w) ≡ cond (eqb (getD B i 0) 255) [] (termOf (getD B i 0) ∷ argsAt B (i + 1) w)
   unfolding argsAt termOf
   args-step i w = refl
@@ -75,7 +68,7 @@ module _ (B : List ℕ) where
       ∙ ap (λ (b : Bool). cond b [] (termOf (getD B i 0) ∷ argsAt B (i + 1) w)) (ne-eqb (getD B i 0) 255 f)
 
   -- what holds of the term in each place that is not 255 holds of each term
-  pub args-each : (P : Term → Type 0) (i w : ℕ)
+  args-each : (P : Term → Type 0) (i w : ℕ)
       → ((v : ℕ) → v < w → (Empty (i + v) → ⊥) → P (termOf (getD B (i + v) 0)))
       → {t : Term} → t ∈ argsAt B i w → P t
   args-each P i zero f {t} m = absurd (List·Memᴰ·not-nil (subst (λ (l : List Term). t ∈ l) (args-none i) m))
@@ -99,7 +92,7 @@ module _ (B : List ℕ) where
           let g : Empty i → ⊥ = λ h. clash (eqb (getD B i 0) 255) (subst T (sym (eq-eqb (getD B i 0) 255 h)) tt) e in
           cons g (List·Memᴰ·cases-cons (subst (λ (l : List Term). t ∈ l) (args-more i w g) m)) below
 
-  pub args-length : (i u w : ℕ) → u ≤ w → ((v : ℕ) → v < u → Empty (i + v) → ⊥)
+  args-length : (i u w : ℕ) → u ≤ w → ((v : ℕ) → v < u → Empty (i + v) → ⊥)
       → ((v : ℕ) → u ≤ v → v < w → Empty (i + v)) → length (argsAt B i w) ≡ u
   args-length i zero zero l f g = ap length (args-none i)
   args-length i (suc u) zero l f g = absurd (omega arith)
@@ -131,7 +124,7 @@ module _ (L : Layout) (B : List ℕ) where
   used-more i w t s = subst T (sym (cond-yes (isTerm L (getD B i 0)) _ _ t)) s
 
   -- u places used, the rest 255
-  pub used-first : (i u w : ℕ) → u ≤ w → ((v : ℕ) → v < u → Full (i + v))
+  used-first : (i u w : ℕ) → u ≤ w → ((v : ℕ) → v < u → Full (i + v))
       → ((v : ℕ) → u ≤ v → v < w → Empty B (i + v)) → T (usedFirst L B i w)
   used-first i zero w l f g = unused-used i w (all-unused B i w (λ v h. g v (omega arith) h))
   used-first i (suc u) zero l f g = absurd (omega arith)
@@ -165,77 +158,6 @@ module _ (L : Layout) (B : List ℕ) where
       next : (j : ℕ) → i + size L * suc j ≡ i + size L + size L * j
       next j = omega (arith, mul-suc (size L) j)
 
--- bytes that were copied say the same
-module _ (L : Layout) (B R : List ℕ) where
-  -- n bytes from k on in B stand from i on in R
-  abbrev pub Copied : ℕ → ℕ → ℕ → Type 0
-  Copied i k n = (v : ℕ) → v < n → getD R (i + v) 0 ≡ getD B (k + v) 0
-
-  copied-first : (i k n : ℕ) → 0 < n → Copied i k n → getD R i 0 ≡ getD B k 0
-  copied-first i k n l c =
-      ap (λ (x : ℕ). getD R x 0) (omega arith) ∙ c 0 l ∙ ap (λ (x : ℕ). getD B x 0) (omega arith)
-
-  copied-rest : (i k m n : ℕ) → Copied i k (m + n) → Copied (i + m) (k + m) n
-  copied-rest i k m n c v l =
-      ap (λ (x : ℕ). getD R x 0) (omega arith) ∙ c (m + v) (omega arith) ∙ ap (λ (x : ℕ). getD B x 0) (omega arith)
-
-  args-copied : (i k w : ℕ) → Copied i k w → argsAt R i w ≡ argsAt B k w
-  args-copied i k zero c = args-none R i ∙ sym (args-none B k)
-  args-copied i k (suc w) c =
-      args-step R i w
-      ∙ ap₂ (λ (b : ℕ) (r : List Term). cond (eqb b 255) [] (termOf b ∷ r)) (copied-first i k (suc w) (omega arith) c)
-      (args-copied (i + 1) (k + 1) w (copied-rest i k 1 w (λ v l. c v (omega arith))))
-      ∙ sym (args-step B k w)
-
-  unused-copied : (i k w : ℕ) → Copied i k w → unused R i w ≡ unused B k w
-  unfolding unused
-  unused-copied i k zero c = refl
-  unused-copied i k (suc w) c =
-      ap₂ (λ (b : ℕ) (r : Bool). eqb b 255 && r) (copied-first i k (suc w) (omega arith) c)
-      (unused-copied (i + 1) (k + 1) w (copied-rest i k 1 w (λ v l. c v (omega arith))))
-
-  used-copied : (i k w : ℕ) → Copied i k w → usedFirst L R i w ≡ usedFirst L B k w
-  unfolding usedFirst
-  used-copied i k zero c = refl
-  used-copied i k (suc w) c =
-      ap₂ (λ (b : ℕ) (r : Bool). cond (isTerm L b) r (unused R i (suc w))) (copied-first i k (suc w) (omega arith) c)
-      (used-copied (i + 1) (k + 1) w (copied-rest i k 1 w (λ v l. c v (omega arith))))
-      ∙ ap (λ (r : Bool). cond (isTerm L (getD B k 0)) (usedFirst L B (k + 1) w) r) (unused-copied i k (suc w) c)
-
-  module _ (some-place : 1 ≤ L .places) where
-    is-copied : (i k : ℕ) → Copied i k (size L) → isAtom L R i ≡ isAtom L B k
-    unfolding isAtom
-    is-copied i k c =
-        let rest : Copied (i + 1) (k + 1) (L .places) = copied-rest i k 1 (L .places) c in
-        ap₂ _&&_ (ap (λ (x : ℕ). ltb x (L .relations)) (copied-first i k (size L) (omega arith) c))
-        (ap₂ _&&_ (ap (isTerm L) (copied-first (i + 1) (k + 1) (L .places) some-place rest))
-        (used-copied (i + 1) (k + 1) (L .places) rest))
-
-    -- n atoms
-    first-copied : (i k n : ℕ) → Copied i k (suc n * size L) → Copied i k (size L)
-    first-copied i k n c v l = c v (omega (arith, suc-mul n (size L)))
-
-    rest-copied : (i k n : ℕ) → Copied i k (suc n * size L) → Copied (i + size L) (k + size L) (n * size L)
-    rest-copied i k n c = copied-rest i k (size L) (n * size L) (λ v l. c v (omega (arith, suc-mul n (size L))))
-
-    pub are-copied : (i k n : ℕ) → Copied i k (n * size L) → areAtoms L R i n ≡ areAtoms L B k n
-    unfolding areAtoms
-    are-copied i k zero c = refl
-    are-copied i k (suc n) c =
-        ap₂ _&&_ (is-copied i k (first-copied i k n c))
-        (are-copied (i + size L) (k + size L) n (rest-copied i k n c))
-
-    pub atoms-copied : (i k n : ℕ) → Copied i k (n * size L) → atomsAt L R i n ≡ atomsAt L B k n
-    unfolding atomsAt atomAt
-    atoms-copied i k zero c = refl
-    atoms-copied i k (suc n) c =
-        ap₂ _∷_
-        (ap₂
-        (λ (r : ℕ) (ts : List Term). let a : Atom = record { rel = r; args = ts } in a)
-        (copied-first i k (size L) (omega arith) (first-copied i k n c))
-        (args-copied (i + 1) (k + 1) (L .places) (copied-rest i k 1 (L .places) (first-copied i k n c))))
-        (atoms-copied (i + size L) (k + size L) n (rest-copied i k n c))
-
 -- the number of terms of an atom with u places used
 pub atom-args : (L : Layout) (B : List ℕ) (i u : ℕ) → u ≤ L .places
     → ((v : ℕ) → v < u → getD B (i + 1 + v) 0 ≡ 255 → ⊥)
@@ -243,24 +165,21 @@ pub atom-args : (L : Layout) (B : List ℕ) (i u : ℕ) → u ≤ L .places
 unfolding atomAt
 atom-args L B i u l f g = args-length B (i + 1) u (L .places) l f g
 
--- of a layout its number of places alone counts
-pub atoms-same : (L K : Layout) (B : List ℕ) → L .places ≡ K .places → (i n : ℕ) → atomsAt L B i n ≡ atomsAt K B i n
-unfolding atomsAt atomAt
-atoms-same L K B e i zero = refl
-atoms-same L K B e i (suc n) =
-    ap₂ _∷_
-    (ap (λ (w : ℕ). let a : Atom = record { rel = getD B i 0; args = argsAt B (i + 1) w } in a) e)
-    (atoms-same L K B e (i + size L) n ∙ ap (λ (w : ℕ). atomsAt K B (i + (1 + w)) n) e)
-
+-- what holds of the term in each used place holds of each term of the atom
 pub atom-each : (L : Layout) (B : List ℕ) (P : Term → Type 0) (i : ℕ)
     → ((v : ℕ) → v < L .places → (getD B (i + 1 + v) 0 ≡ 255 → ⊥) → P (termOf (getD B (i + 1 + v) 0)))
     → (t : Term) → t ∈ atomAt L B i .args → P t
 unfolding atomAt
 atom-each L B P i f t m = args-each B P (i + 1) (L .places) f m
 
-pub atom-relation : (L : Layout) (B : List ℕ) (i : ℕ) → atomAt L B i .rel ≡ getD B i 0
+-- where an atom's relation and its terms stand
+pub relation-at : (L : Layout) (B : List ℕ) (i : ℕ) → atomAt L B i .rel ≡ getD B i 0
 unfolding atomAt
-atom-relation L B i = refl
+relation-at L B i = refl
+
+pub args-at : (L : Layout) (B : List ℕ) (i : ℕ) → atomAt L B i .args ≡ argsAt B (i + 1) (L .places)
+unfolding atomAt
+args-at L B i = refl
 
 -- each of n atoms from i on stands where it is expected
 pub atoms-each : (L : Layout) (B : List ℕ) (P : Atom → Type 0) (i n : ℕ)
