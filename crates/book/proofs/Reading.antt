@@ -3,9 +3,10 @@ use mathlib.Core.Path.{_≡_, refl, sym, _∙_, ap, subst}
 use mathlib.Core.List.{List, [], _∷_, List·Memᴰ·head, List·Memᴰ·tail, List·Memᴰ·not-nil, List·Memᴰ·cases-cons}
 use mathlib.Core.Logic.{_⊎_, inl, inr}
 use Prim.Native.Nat.{ℕ, zero, suc, _+_, _*_, _-_, _≤_, _<_}
-use native.Mathlib.Nat.{sub-eq-zero-of-le}
+use native.Mathlib.Nat.{sub-zero, sub-eq-zero-of-le}
 use native.Mathlib.Omega.{arith}
 use lib.Dec.{T}
+use lib.ListN.{drop}
 use Rattle.cover.specs.Lists.{_∈_}
 use Rattle.cover.specs.Record.{desk, size, atomsAt, questionOf, areAtoms, Sound as SoundRecord}
 use Rattle.cover.proofs.Places.{question-at}
@@ -65,6 +66,23 @@ module _ (B : List ℕ) where
   rules-more n k h =
       ap (rulesFrom B (ruleStart B k)) (one-more n k h)
       ∙ ap (λ (s : ℕ). ruleAt B (ruleStart B k) ∷ rulesFrom B s (n - (k + 1))) (sym (after-next B (rulesStart B) k))
+
+  rules-after : (s n k : ℕ) → drop k (rulesFrom B s n) ≡ rulesFrom B (after B s k) (n - k)
+  unfolding rulesFrom after
+  rules-after s n zero = ap (rulesFrom B s) (sym (sub-zero n))
+  rules-after s zero (suc k) = ap (rulesFrom B (after B (ruleEnd B s) k)) (none-left (suc k))
+    where
+      none-left : (k : ℕ) → 0 ≡ 0 - k
+      none-left k = omega arith
+  rules-after s (suc n) (suc k) =
+      rules-after (ruleEnd B s) n k ∙ ap (rulesFrom B (after B (ruleEnd B s) k)) (fewer n k)
+    where
+      fewer : (n k : ℕ) → n - k ≡ suc n - suc k
+      fewer n k = omega arith
+
+  -- the rules from the k-th on
+  pub rules-left : (k : ℕ) → drop k (bookOf B .rules) ≡ rulesFrom B (ruleStart B k) (rules B - k)
+  rules-left k = ap (drop k) book-rules ∙ rules-after (rulesStart B) (rules B) k
 
   -- each rule of the list starts where `starts` says
   pub rule-from : (s n : ℕ) {r : Rule} → r ∈ rulesFrom B s n → (k : ℕ) × (k < n) × (r ≡ ruleAt B (after B s k))

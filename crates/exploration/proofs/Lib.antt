@@ -18,6 +18,7 @@ pub mod Derived
 pub mod OfBook
 -- the union as bytes
 pub mod Written
+pub mod Members
 -- refuses exactly; what follows from the contract
 pub mod Refused
 pub mod Returns

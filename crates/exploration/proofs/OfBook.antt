@@ -23,7 +23,7 @@ use Rattle.book.proofs.Sound.{own-room, sound-header}
 use Rattle.book.proofs.Fits.{body-some, body-few, body-fits, head-fits, question-some, question-few, question-fits}
 use Rattle.unify.specs.Step.{Below, rewritings}
 use Rattle.unify.proofs.Collected.{gather-in, gather-out}
-use Rattle.exploration.specs.Run.{limits, State, complete, apart, allRewritings, runBy, run}
+use Rattle.exploration.specs.Run.{limits, State, complete, start, apart, allRewritings, exploring, runBy, run}
 use Rattle.exploration.specs.Steps.{within, Reaches}
 use Rattle.exploration.specs.Chain.{SomeHolds, Derives, Reached, first, next}
 use Rattle.exploration.proofs.Small.{roomFor, RuleFits, fits-below, form-fits, rewriting-formed, rewriting-short}
@@ -36,6 +36,12 @@ pub run-is : (rules : List Rule) (allowed : ℕ) (Q : Question)
     → run rules allowed Q ≡ runBy covers limits (allRewritings rules) allowed Q
 unfolding run
 run-is rules allowed Q = refl
+
+-- "The form of the question is the first member.", and none is taken up yet
+pub run-begins : (rules : List Rule) (allowed : ℕ) (Q : Question)
+    → run rules allowed Q ≡ exploring covers limits (allRewritings rules) allowed 0 (start Q)
+unfolding run runBy
+run-begins rules allowed Q = refl
 
 module _ (B : List ℕ) where
   abbrev pub rulesOf : List Rule

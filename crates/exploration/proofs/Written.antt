@@ -1,6 +1,6 @@
 -- The union's bytes: their length, and what is read back from them (`union-round`). Assumes nothing.
 use mathlib.Core.Path.{_≡_, refl, sym, _∙_, ap, ap₂}
-use mathlib.Core.List.{List, [], _∷_, _++_, append-assoc, List·Memᴰ·head, List·Memᴰ·tail}
+use mathlib.Core.List.{List, [], _∷_, _++_, append-assoc, append-nil, List·Memᴰ·head, List·Memᴰ·tail}
 use Prim.Native.Nat.{ℕ, _+_, _*_, _/_, _%_, _≤_}
 use native.Mathlib.Nat.{div-add-mod'}
 use native.Mathlib.Omega.{arith}
@@ -14,7 +14,7 @@ use Rattle.cover.proofs.RoundTrip.{atoms-read}
 use Rattle.cover.proofs.Padded.{desk-apart}
 use Rattle.book.specs.Word.{byte, word}
 use Rattle.book.proofs.Reading.{word-is}
-use Rattle.exploration.specs.Union.{membersBytes, total, unionBytes, outputSize}
+use Rattle.exploration.specs.Union.{wordBytes, membersBytes, firstAt, total, unionBytes, outputSize}
 use Rattle.exploration.specs.Union.{memberEnd, membersFrom, membersOf, exploredOf, totalOf}
 
 -- lengths
@@ -39,17 +39,35 @@ members-length (M ∷ U) m h =
 pub total-most : (U : List Question) → length U ≤ 64 → ((M : Question) → M ∈ U → length M ≤ 8) → total U ≤ outputSize
 total-most U few short = let h = members-length U 8 short in omega (arith, total-is U)
 
+pub members-append : (A R : List Question) → membersBytes (A ++ R) ≡ membersBytes A ++ membersBytes R
+members-append [] R = refl
+members-append (M ∷ A) R =
+    ap (λ (l : List ℕ). recordBytes desk M ++ l) (members-append A R)
+    ∙ sym (append-assoc (recordBytes desk M) (membersBytes A) (membersBytes R))
+
 -- one member more at the end
 pub members-last : (U : List Question) (P : Question)
     → membersBytes (U ++ P ∷ []) ≡ membersBytes U ++ recordBytes desk P
-members-last [] P = go (recordBytes desk P)
-  where
-    go : (l : List ℕ) → l ++ [] ≡ l
-    go [] = refl
-    go (x ∷ l) = ap (λ (r : List ℕ). x ∷ r) (go l)
-members-last (M ∷ U) P =
-    ap (λ (l : List ℕ). recordBytes desk M ++ l) (members-last U P)
-    ∙ sym (append-assoc (recordBytes desk M) (membersBytes U) (recordBytes desk P))
+members-last U P =
+    members-append U (P ∷ []) ∙ ap (λ (l : List ℕ). membersBytes U ++ l) (append-nil (recordBytes desk P))
+
+-- the four words, and the members after them
+abbrev pub headerBytes : List Question → ℕ → List ℕ
+headerBytes U explored =
+    wordBytes (length U) ++ (wordBytes explored ++ (wordBytes firstAt ++ wordBytes (total U)))
+
+pub union-is : (U : List Question) (explored : ℕ) → unionBytes U explored ≡ headerBytes U explored ++ membersBytes U
+unfolding unionBytes
+union-is U explored = refl
+
+pub members-there : (U : List Question) (explored : ℕ) (R : List ℕ)
+    → drop firstAt (unionBytes U explored ++ R) ≡ membersBytes U ++ R
+unfolding unionBytes
+members-there U explored R = refl
+
+pub members-of : (W : List ℕ) → membersOf W ≡ membersFrom W (word W 4) (word W 0)
+unfolding membersOf
+members-of W = refl
 
 -- what a word of bytes says
 word-back : (n : ℕ) → n % 256 + 256 * (n / 256) ≡ n

@@ -21,7 +21,7 @@ use Rattle.book.specs.Parts.{StartsAt, partsAt}
 use Rattle.book.specs.Verdict.{Sound as SoundBook}
 use Rattle.book.proofs.Sound.{sound-header, sound-rule, sound-question}
 use Rattle.book.specs.Book.{ruleEnd, ruleAt, rulesFrom, rulesStart, after, ruleStart, bookOf}
-use Rattle.book.proofs.Reading.{book-rules, rules-none, rules-more}
+use Rattle.book.proofs.Reading.{rules-none, rules-more}
 use Rattle.unify.specs.declared.Found.{Found}
 use Rattle.unify.specs.Held.{ruleOf, answered, RuleIn, QuestionIn}
 use Rattle.unify.proofs.FromBook.{rule-in, rule-is, found-within}
@@ -32,29 +32,12 @@ use Rattle.explore.specs.Taking.{Numbered, orLater, nextAmong, taken}
 use Rattle.exploration.specs.Union.{membersFrom, firstAt}
 use Rattle.explore.specs.Held.{Standing}
 use Rattle.explore.proofs.Finding.{Here, stands}
-use Rattle.explore.proofs.Removal.{members-more}
+use Rattle.exploration.proofs.Members.{members-more}
 
 pub true≢false : true ≡ false → ⊥
 true≢false e = let z : _≡_ {A = ℕ} 0 1 = cc in absurd (omega arith)
 
 module _ (B : List ℕ) where
-  rules-after : (s n k : ℕ) → drop k (rulesFrom B s n) ≡ rulesFrom B (after B s k) (n - k)
-  unfolding rulesFrom after
-  rules-after s n zero = ap (rulesFrom B s) (sym (sub-zero n))
-  rules-after s zero (suc k) = ap (rulesFrom B (after B (ruleEnd B s) k)) (none-left (suc k))
-    where
-      none-left : (k : ℕ) → 0 ≡ 0 - k
-      none-left k = omega arith
-  rules-after s (suc n) (suc k) =
-      rules-after (ruleEnd B s) n k ∙ ap (rulesFrom B (after B (ruleEnd B s) k)) (fewer n k)
-    where
-      fewer : (n k : ℕ) → n - k ≡ suc n - suc k
-      fewer n k = omega arith
-
-  -- the rules from the k-th on
-  pub rules-left : (k : ℕ) → drop k (bookOf B .rules) ≡ rulesFrom B (ruleStart B k) (rules B - k)
-  rules-left k = ap (drop k) (book-rules B) ∙ rules-after (rulesStart B) (rules B) k
-
   module _ (M : Question) (k n : ℕ) where
     pub among-none : rules B ≤ k → nextAmong M k n (rulesFrom B (ruleStart B k) (rules B - k)) ≡ none
     unfolding nextAmong

@@ -1,121 +1,56 @@
--- Laws of a working array in order (`specs/Held`, `Working`): members from a place on, split and read elsewhere; an
--- array that holds a state is in order, and its state is that one; the removal of all that a rewriting covers.
--- Assumes nothing.
+-- Laws of a working array in order (`specs/Held`, `Working`): members that stand, split and read elsewhere; an array
+-- that holds a state is in order, and its state is that one; the removal of all that a rewriting covers. Assumes
+-- nothing.
 use mathlib.Core.Path.{_≡_, refl, sym, _∙_, ap, ap₂, subst}
 use mathlib.Core.List.{List, _∷_, _++_, append-assoc}
 use mathlib.Core.Bool.{not}
 use Prim.Native.Nat.{ℕ, zero, suc, _+_, _*_, _-_, _≤_}
 use native.Mathlib.Omega.{arith}
-use lib.ListN.{length, getD, take, drop, length-append, take-append-drop}
-use lib.Seq.{drop-drop, drop-at, take-at, length-take-le}
+use lib.ListN.{length, take, drop, length-append, take-append-drop}
+use lib.Seq.{drop-at, take-at, length-take-le}
 use Rattle.cover.specs.Lists.{_∈_}
 use Rattle.cover.specs.Term.{Question}
 use Rattle.cover.specs.Search.{covers}
-use Rattle.cover.specs.Record.{desk, atomsAt, questionOf, recordBytes, Fits, Sound}
-use Rattle.cover.proofs.Lengths.{count-atoms, record-long}
+use Rattle.cover.specs.Record.{desk, Fits, Sound}
 use Rattle.cover.proofs.Fitting.{keep-few}
 use Rattle.cover.proofs.Lists.{keep-out}
-use Rattle.book.specs.Word.{byte}
 use Rattle.explore.specs.declared.Extent.{Extent}
 use Rattle.explore.specs.declared.Moved.{Moved}
 use Rattle.exploration.specs.Run.{State, without}
 use Rattle.exploration.specs.Union.{membersBytes, membersFrom, memberEnd, firstAt, outputSize}
 use Rattle.explore.specs.Held.{Held, Standing, stateOf, Working, Kept, rest}
-use Rattle.exploration.proofs.Written.{total-is, total-most}
-use Rattle.explore.proofs.Holding.{members-append}
+use Rattle.exploration.proofs.Written.{total-is, total-most, members-append}
 use Rattle.explore.proofs.Stand.{held-stands, held-members}
-use Rattle.explore.proofs.Finding.{question-from, count-from}
+use Rattle.exploration.proofs.Members.{members-count, ending, ending-none, ending-next, members-split}
+use Rattle.exploration.proofs.Members.{later, end-same, members-same}
 use Rattle.exploration.proofs.States.{keep-append}
 
--- members from a place on
+-- members that stand, split and read elsewhere
 module _ (W : List ℕ) where
-  end-is : (i : ℕ) → memberEnd W i ≡ i + length (recordBytes desk (atomsAt desk W (i + 1) (byte W i)))
-  end-is i =
-      omega (
-        arith,
-        record-long desk (atomsAt desk W (i + 1) (byte W i)),
-        count-atoms desk W (byte W i) (i + 1),
-      )
-
-  same-place : (i : ℕ) → i ≡ i + 0
-  same-place i = omega arith
-
-  same-count : (n : ℕ) → 0 + n ≡ n
-  same-count n = omega arith
-
-  more : (k n : ℕ) → suc k + n ≡ suc (k + n)
-  more k n = omega arith
-
-  pub members-count : (i n : ℕ) → length (membersFrom W i n) ≡ n
-  unfolding membersFrom
-  members-count i zero = refl
-  members-count i (suc n) = ap suc (members-count (memberEnd W i) n)
-
-  -- where n members from i on end
-  abbrev pub ending : ℕ → ℕ → ℕ
-  ending i n = i + length (membersBytes (membersFrom W i n))
-
-  ending-next : (i k : ℕ) → ending (memberEnd W i) k ≡ ending i (suc k)
-  unfolding membersFrom
-  ending-next i k =
-      omega (
-        arith,
-        end-is i,
-        length-append (recordBytes desk (atomsAt desk W (i + 1) (byte W i))) (membersBytes (membersFrom W (memberEnd W i) k)),
-      )
-
-  pub members-split : (i k n : ℕ) → membersFrom W i (k + n) ≡ membersFrom W i k ++ membersFrom W (ending i k) n
-  unfolding membersFrom
-  members-split i zero n = ap₂ (membersFrom W) (same-place i) (same-count n)
-  members-split i (suc k) n =
-      ap (membersFrom W i) (more k n)
-      ∙ ap (λ (U : List Question). atomsAt desk W (i + 1) (byte W i) ∷ U)
-      (members-split (memberEnd W i) k n
-      ∙ ap (λ (j : ℕ). membersFrom W (memberEnd W i) k ++ membersFrom W j n) (ending-next i k))
-
-  pub standing-split : (i k n : ℕ) → Standing W i (k + n) → Standing W i k × Standing W (ending i k) n
-  unfolding Standing membersFrom
+  pub standing-split : (i k n : ℕ) → Standing W i (k + n) → Standing W i k × Standing W (ending W i k) n
+  unfolding Standing
   standing-split i zero n s = (
     tt,
-    subst (λ (j : ℕ). Standing W j n) (same-place i) (subst (Standing W i) (same-count n) s),
+    subst (λ (j : ℕ). Standing W j n) (ending-none W i) (subst (Standing W i) (none-passed n) s),
   )
-  standing-split i (suc k) n s =
-      let t : Sound desk (drop i W) × Standing W (memberEnd W i) (k + n) = subst (Standing W i) (more k n) s in
-      let r = standing-split (memberEnd W i) k n (t .1) in
-      ((t .0, r .0), subst (λ (j : ℕ). Standing W j n) (ending-next i k) (r .1))
-
--- the same bytes from a place on have the same members
-module _ (W X : List ℕ) where
-  count-same : (i : ℕ) → drop i X ≡ drop i W → byte X i ≡ byte W i
-  count-same i e = sym (count-from X i) ∙ ap (λ (l : List ℕ). getD l 0 0) e ∙ count-from W i
-
-  later : (i : ℕ) → drop i X ≡ drop i W → drop (memberEnd W i) X ≡ drop (memberEnd W i) W
-  later i e =
-      ap (λ (j : ℕ). drop j X) (end-at i)
-      ∙ sym (drop-drop (1 + byte W i * 5) i X)
-      ∙ ap (drop (1 + byte W i * 5)) e
-      ∙ drop-drop (1 + byte W i * 5) i W
-      ∙ ap (λ (j : ℕ). drop j W) (sym (end-at i))
     where
-      end-at : (i : ℕ) → memberEnd W i ≡ i + (1 + byte W i * 5)
-      end-at i = omega arith
+      none-passed : (n : ℕ) → 0 + n ≡ n
+      none-passed n = omega arith
+  standing-split i (suc k) n s =
+      let t : Sound desk (drop i W) × Standing W (memberEnd W i) (k + n) = subst (Standing W i) (one-passed k n) s in
+      let r = standing-split (memberEnd W i) k n (t .1) in
+      ((t .0, r .0), subst (λ (j : ℕ). Standing W j n) (ending-next W i k) (r .1))
+    where
+      one-passed : (k n : ℕ) → suc k + n ≡ suc (k + n)
+      one-passed k n = omega arith
 
-  end-same : (i : ℕ) → drop i X ≡ drop i W → memberEnd X i ≡ memberEnd W i
-  end-same i e = ap (λ (b : ℕ). i + 1 + b * 5) (count-same i e)
-
-  pub members-same : (i n : ℕ) → drop i X ≡ drop i W → membersFrom X i n ≡ membersFrom W i n
-  unfolding membersFrom
-  members-same i zero e = refl
-  members-same i (suc n) e =
-      ap₂ _∷_ (sym (question-from X i) ∙ ap (questionOf desk) e ∙ question-from W i)
-      (ap (λ (j : ℕ). membersFrom X j n) (end-same i e) ∙ members-same (memberEnd W i) n (later i e))
-
-  pub standing-same : (i n : ℕ) → drop i X ≡ drop i W → Standing W i n → Standing X i n
+  pub standing-same : (X : List ℕ) (i n : ℕ) → drop i X ≡ drop i W → Standing W i n → Standing X i n
   unfolding Standing
-  standing-same i zero e s = tt
-  standing-same i (suc n) e s = (
+  standing-same X i zero e s = tt
+  standing-same X i (suc n) e s = (
     subst (Sound desk) (sym e) (s .0),
-    subst (λ (j : ℕ). Standing X j n) (sym (end-same i e)) (standing-same (memberEnd W i) n (later i e) (s .1)),
+    subst (λ (j : ℕ). Standing X j n) (sym (end-same W X i e))
+        (standing-same X (memberEnd W i) n (later W X i e) (s .1)),
   )
 
 -- an array that holds a state

@@ -12,8 +12,10 @@ use Rattle.exploration.proofs.Returns.{returns-refused, returns-union}
 use Rattle.explore.specs.declared.Extent.{Extent}
 use Rattle.explore.specs.declared.Ran.the-variants.{Complete, Refused}
 use Rattle.explore.specs.Held.{RanIs}
-use Rattle.explore.proofs.Holding.{headerBytes, held-union}
-use Rattle.explore.proofs.Array.{members-count, len-most}
+use Rattle.exploration.proofs.Written.{headerBytes}
+use Rattle.exploration.proofs.Members.{members-count}
+use Rattle.explore.proofs.Holding.{held-union}
+use Rattle.explore.proofs.Array.{len-most}
 
 module _ (book out : List ℕ) (roomy : outputSize ≤ length out) (sound : Sound book) where
   pub returns-stopped : (X : List ℕ) (k p : ℕ) → RanIs (outcomeOf book) X (Refused k p) → Answers book out k p out

@@ -20,7 +20,8 @@ use Rattle.exploration.specs.Steps.{New}
 use Rattle.exploration.specs.Union.{membersBytes, membersFrom, firstAt, outputSize}
 use Rattle.explore.specs.Held.{Held, stateOf, Working, beforeCovering, rest, FateIs}
 use Rattle.exploration.proofs.Admits.{was-covered, was-long, was-full, was-admitted, admit-is}
-use Rattle.explore.proofs.Array.{members-count, state-held, held-working, len-most}
+use Rattle.exploration.proofs.Members.{members-count}
+use Rattle.explore.proofs.Array.{state-held, held-working, len-most}
 use Rattle.exploration.proofs.Written.{total-is, total-most, members-last}
 use Rattle.explore.proofs.Holding.{held-appended}
 use Rattle.explore.proofs.Finding.{covering-found}

@@ -8,35 +8,19 @@ use native.Mathlib.Nat.{sub-eq-zero-of-le}
 use borrow.Author.Tests.{lt-ltb}
 use lib.Dec.{ltb, leb·suc-suc}
 use lib.ListN.{length, getD, take, drop, length-drop}
-use lib.Seq.{getD-drop, take-all}
+use lib.Seq.{take-all}
 use Rattle.cover.specs.Lists.{any}
 use Rattle.cover.specs.Term.{Atom, Question}
 use Rattle.cover.specs.Search.{covers, coversOn}
 use Rattle.cover.specs.Record.{desk, atomAt, atomsAt, questionOf, Sound}
 use Rattle.cover.proofs.Decides.{covers-any}
 use Rattle.cover.proofs.Places.{question-at}
-use Rattle.cover.proofs.Copied.{atoms-copied}
 use Rattle.cover.proofs.Steps.{atoms-none, atoms-more}
 use Rattle.book.specs.Word.{byte}
 use Rattle.exploration.specs.Run.{Test, covered}
 use Rattle.exploration.specs.Union.{membersFrom, memberEnd}
+use Rattle.exploration.proofs.Members.{next, one-more, end-at, count-from, members-more, members-none}
 use Rattle.explore.specs.Held.{Standing, beforeCovering}
-
-one-more : (n i : ℕ) → i < n → n - i ≡ suc (n - (i + 1))
-one-more n i h = omega arith
-
--- a question read from a place on is read from the part of the buffer that starts there
-module _ (W : List ℕ) (i : ℕ) where
-  atoms-from : (j n : ℕ) → atomsAt desk (drop i W) j n ≡ atomsAt desk W (i + j) n
-  atoms-from j n =
-      atoms-copied desk W (drop i W) (omega arith) j (i + j) n
-      (λ v l. getD-drop i W (j + v) 0 ∙ ap (λ (k : ℕ). getD W k 0) (omega arith))
-
-  pub count-from : getD (drop i W) 0 0 ≡ byte W i
-  count-from = getD-drop i W 0 0 ∙ ap (λ (k : ℕ). getD W k 0) (omega arith)
-
-  pub question-from : questionOf desk (drop i W) ≡ atomsAt desk W (i + 1) (byte W i)
-  question-from = question-at desk (drop i W) count-from ∙ atoms-from 1 (byte W i)
 
 -- one candidate more
 module _ (f : Atom → Bool) (B : List ℕ) (k w : ℕ) where
@@ -73,41 +57,31 @@ covers-one M C s =
     split : questionOf desk M ≡ atomAt desk M 1 ∷ atomsAt desk M 6 (getD M 0 0 - 1)
     split = question-at desk M refl ∙ atoms-more desk M 1 (getD M 0 0) (s .some-atom)
 
-end-is : (W : List ℕ) (at : ℕ) → memberEnd W at ≡ at + (1 + byte W at * 5)
-end-is W at = omega arith
-
 -- one member more
 module _ (cov : Test) (P : Question) (W : List ℕ) (at i n : ℕ) where
   pub first-end : n ≤ i → beforeCovering cov P (membersFrom W at (n - i)) ≡ 0
-  unfolding membersFrom beforeCovering
-  first-end h = ap (λ (m : ℕ). beforeCovering cov P (membersFrom W at m)) (sub-eq-zero-of-le h)
+  unfolding beforeCovering
+  first-end h = ap (beforeCovering cov P) (members-none W at n i h)
 
   first-next : i < n → beforeCovering cov P (membersFrom W at (n - i))
       ≡ cond (cov (questionOf desk (drop at W)) P) 0
-      (suc (beforeCovering cov P (membersFrom W (memberEnd W at) (n - (i + 1)))))
-  unfolding membersFrom beforeCovering
-  first-next h =
-      ap (λ (m : ℕ). beforeCovering cov P (membersFrom W at m)) (one-more n i h)
-      ∙ ap
-      (λ (M : Question). cond (cov M P) 0
-      (suc (beforeCovering cov P (membersFrom W (memberEnd W at) (n - (i + 1))))))
-      (sym (question-from W at))
+      (suc (beforeCovering cov P (membersFrom W (next W at) (n - (i + 1)))))
+  unfolding beforeCovering
+  first-next h = ap (beforeCovering cov P) (members-more W at n i h)
+
+  others : Bool → ℕ
+  others b = cond b 0 (suc (beforeCovering cov P (membersFrom W (next W at) (n - (i + 1)))))
 
   pub first-hit : i < n → cov (questionOf desk (drop at W)) P ≡ true
       → beforeCovering cov P (membersFrom W at (n - i)) ≡ 0
-  first-hit h e =
-      first-next h
-      ∙ ap
-      (λ (b : Bool). cond b 0 (suc (beforeCovering cov P (membersFrom W (memberEnd W at) (n - (i + 1)))))) e
+  unfolding others
+  first-hit h e = first-next h ∙ ap others e
 
   pub first-miss : i < n → cov (questionOf desk (drop at W)) P ≡ false
       → beforeCovering cov P (membersFrom W at (n - i))
       ≡ suc (beforeCovering cov P (membersFrom W (at + (1 + byte W at * 5)) (n - (i + 1))))
-  first-miss h e =
-      first-next h
-      ∙ ap
-      (λ (b : Bool). cond b 0 (suc (beforeCovering cov P (membersFrom W (memberEnd W at) (n - (i + 1)))))) e
-      ∙ ap (λ (k : ℕ). suc (beforeCovering cov P (membersFrom W k (n - (i + 1))))) (end-is W at)
+  unfolding others
+  first-miss h e = first-next h ∙ ap others e
 
 -- what is known of the member at a place where one stands
 pub record Here (W : List ℕ) (at n : ℕ) : Type 0 where
@@ -126,7 +100,7 @@ stands W at i n h s =
       sound = m .0;
       most = omega (arith, m .0 .most, e);
       within = omega (arith, m .0 .fits, e, length-drop at W);
-      rest = subst (λ (k : ℕ). Standing W k (n - (i + 1))) (end-is W at) (m .1);
+      rest = subst (λ (k : ℕ). Standing W k (n - (i + 1))) (end-at W at) (m .1);
     }
 
 -- the part of the buffer from there on

@@ -9,24 +9,9 @@ use lib.Seq.{take-at, drop-at, drop-append-le, length-take-le}
 use Rattle.cover.specs.Term.{Question}
 use Rattle.cover.specs.Record.{desk, recordBytes}
 use Rattle.exploration.specs.Run.{State}
-use Rattle.exploration.specs.Union.{wordBytes, membersBytes, firstAt, total, unionBytes, outputSize}
+use Rattle.exploration.specs.Union.{membersBytes, firstAt, total, unionBytes, outputSize}
 use Rattle.explore.specs.Held.{Held}
-use Rattle.exploration.proofs.Written.{total-is, members-last}
-
-pub members-append : (A R : List Question) → membersBytes (A ++ R) ≡ membersBytes A ++ membersBytes R
-members-append [] R = refl
-members-append (M ∷ A) R =
-    ap (λ (l : List ℕ). recordBytes desk M ++ l) (members-append A R)
-    ∙ sym (append-assoc (recordBytes desk M) (membersBytes A) (membersBytes R))
-
--- the four words
-abbrev pub headerBytes : List Question → ℕ → List ℕ
-headerBytes U explored =
-    wordBytes (length U) ++ (wordBytes explored ++ (wordBytes firstAt ++ wordBytes (total U)))
-
-pub union-is : (U : List Question) (explored : ℕ) → unionBytes U explored ≡ headerBytes U explored ++ membersBytes U
-unfolding unionBytes
-union-is U explored = refl
+use Rattle.exploration.proofs.Written.{total-is, members-last, headerBytes, union-is}
 
 module _ {W : List ℕ} {len count front : ℕ} {s : State} (h : Held W len count front s) where
   -- what stands before the end

@@ -2,50 +2,20 @@
 use mathlib.Core.Path.{_≡_, refl, sym, _∙_, ap, ap₂, subst}
 use mathlib.Core.Bool.{Bool, true, false, cond, not}
 use mathlib.Core.List.{List, [], _∷_, _++_, append-assoc, append-nil}
-use Prim.Native.Nat.{ℕ, suc, _+_, _*_, _-_, _≤_, _<_}
+use Prim.Native.Nat.{ℕ, _+_, _*_, _-_, _≤_, _<_}
 use native.Mathlib.Omega.{arith}
-use native.Mathlib.Nat.{sub-zero, sub-eq-zero-of-le}
+use native.Mathlib.Nat.{sub-zero}
 use lib.ListN.{length, getD, take, drop, length-append, length-drop}
 use lib.Seq.{drop-drop, drop-at, take-at, length-take-le}
 use Rattle.cover.specs.Term.{Question}
 use Rattle.cover.specs.Search.{covers}
 use Rattle.cover.specs.Record.{desk, questionOf, recordBytes, Sound}
-use Rattle.cover.proofs.Padded.{desk-apart}
-use Rattle.cover.proofs.Begun.{begun-long, begun-record}
 use Rattle.book.specs.Word.{byte}
 use Rattle.exploration.specs.Run.{without}
 use Rattle.exploration.specs.Union.{membersBytes, membersFrom}
+use Rattle.exploration.proofs.Members.{next, count-from, member-width, member-bytes, members-more, members-none}
 use Rattle.explore.specs.Held.{Standing, Kept}
-use Rattle.explore.proofs.Finding.{Here, stands, question-from, count-from, part-is}
-
--- where a member stands, and how many bytes it takes
-abbrev pub next : List ℕ → ℕ → ℕ
-next W at = at + (1 + byte W at * 5)
-
-one-more : (n i : ℕ) → i < n → n - i ≡ suc (n - (i + 1))
-one-more n i h = omega arith
-
-module _ (W : List ℕ) (at : ℕ) where
-  -- the member at hand and those after it
-  pub members-more : (n i : ℕ) → i < n
-      → membersFrom W at (n - i) ≡ questionOf desk (drop at W) ∷ membersFrom W (next W at) (n - (i + 1))
-  unfolding membersFrom
-  members-more n i h =
-      ap (membersFrom W at) (one-more n i h)
-      ∙ ap₂ (λ (N : Question) (k : ℕ). N ∷ membersFrom W k (n - (i + 1))) (sym (question-from W at)) (omega arith)
-
-  pub members-none : (n i : ℕ) → n ≤ i → membersFrom W at (n - i) ≡ []
-  unfolding membersFrom
-  members-none n i h = ap (membersFrom W at) (sub-eq-zero-of-le h)
-
-  pub member-width : length (recordBytes desk (questionOf desk (drop at W))) ≡ 1 + byte W at * 5
-  member-width = begun-long desk (drop at W) ∙ ap (λ (n : ℕ). 1 + n * 5) (count-from W at)
-
-  pub member-bytes : Sound desk (drop at W)
-      → take (1 + byte W at * 5) (drop at W) ≡ recordBytes desk (questionOf desk (drop at W))
-  member-bytes s =
-      ap (λ (n : ℕ). take (1 + n * 5) (drop at W)) (sym (count-from W at))
-      ∙ begun-record desk (drop at W) desk-apart s
+use Rattle.explore.proofs.Finding.{Here, stands, part-is}
 
 -- The removal midway: i of the n members from `from` on are passed, the next one stands at `at`, the next kept one
 -- goes to `end`, and `kept` were kept. What was kept and what is yet to be judged make up the whole.

@@ -21,7 +21,7 @@ use Rattle.explore.specs.declared.Explored.{Explored}
 use Rattle.explore.specs.declared.Explored.the-variants.{Passed, Refused}
 use Rattle.explore.specs.declared.Ran.the-variants.{Complete, Refused as NotRun}
 use Rattle.exploration.specs.Run.{State, limits, none-left, Pass, Outcome, refused, onPass, oldest}
-use Rattle.exploration.specs.Run.{takenUp, start, through, exploring, runBy, allRewritings}
+use Rattle.exploration.specs.Run.{takenUp, start, through, exploring, allRewritings}
 use Rattle.exploration.specs.Steps.{between, within, Reaches, begins, takes-up}
 use Rattle.exploration.specs.Union.{firstAt, outputSize}
 use Rattle.exploration.specs.Answer.{outcomeOf}
@@ -29,10 +29,11 @@ use Rattle.explore.specs.Held.{Held, stateOf, Working, MemberIn, Explore
 use Rattle.explore.proofs.Records.{record-sound, record-question, member-question}
 use Rattle.exploration.proofs.Written.{total-is}
 use Rattle.explore.proofs.Holding.{held-appended}
-use Rattle.explore.proofs.Array.{members-count, state-held, held-working}
+use Rattle.exploration.proofs.Members.{members-count}
+use Rattle.explore.proofs.Array.{state-held, held-working}
 use Rattle.exploration.proofs.Turns.{turn-complete, turn-ten, turn-explores}
 use Rattle.exploration.proofs.Ends.{through-reaches}
-use Rattle.exploration.proofs.OfBook.{Member, run-is, first-member, taken-member, desk-fits}
+use Rattle.exploration.proofs.OfBook.{Member, run-begins, first-member, taken-member, desk-fits}
 
 -- the next of a list
 head-some : {A : Type 0} (n : ℕ) (l : List A) → n < length l → (a : A) × (head (drop n l) ≡ some a)
@@ -64,11 +65,6 @@ module _ (B : List ℕ) where
         (between (stateOf X f) taken)
     pub outcome : outcomeOf B
         ≡ exploring covers limits (allRewritings (bookOf B .rules)) (bookOf B .allowed - taken) taken (stateOf X f)
-
-  run-by : runBy covers limits steps allowed (bookOf B .question)
-      ≡ exploring covers limits steps allowed 0 (start (bookOf B .question))
-  unfolding runBy
-  run-by = refl
 
   -- "The form of the question is the first member."
   module _ (s : SoundBook B) (W : List ℕ) (size : length W ≡ outputSize) where
@@ -109,8 +105,7 @@ module _ (B : List ℕ) where
               few = omega arith;
               comes = subst (λ (t : State). Comes t 0) (sym begun) begins;
               outcome =
-                  run-is (bookOf B .rules) allowed (bookOf B .question)
-                  ∙ run-by
+                  run-begins (bookOf B .rules) allowed (bookOf B .question)
                   ∙ ap₂ (λ (n : ℕ) (t : State). exploring covers limits steps n 0 t) all (sym begun);
             }
           where

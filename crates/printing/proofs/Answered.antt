@@ -19,7 +19,7 @@ use Rattle.explore.specs.Held.{Standing}
 use Rattle.exploration.specs.Union.{outputSize, membersBytes, unionBytes, membersOf, exploredOf}
 use Rattle.book.proofs.Fits.{allowed-few}
 use Rattle.exploration.proofs.OfBook.{members-most, explored-allowed, desk-fits}
-use Rattle.exploration.proofs.Written.{count-read, offset-read}
+use Rattle.exploration.proofs.Written.{count-read, offset-read, members-there}
 use Rattle.explore.proofs.Stand.{members-stand}
 use Rattle.exploration.proofs.Refused.{refuses-exactly}
 use Rattle.exploration.proofs.Given.{Whole, all, kind, members-are, explored-is, the-bytes, same-length, refused-exactly}
@@ -28,10 +28,6 @@ use Rattle.printing.specs.Put.{Puts}
 use Rattle.printing.specs.Answer.{resultIn, Stands, Printable, textSize, linesOf}
 use Rattle.printing.proofs.Putting.{put-none, put-as}
 use Rattle.printing.proofs.Longest.{union-most, refusal-most}
-
-members-there : (U : List Question) (n : ℕ) (R : List ℕ) → drop 8 (unionBytes U n ++ R) ≡ membersBytes U ++ R
-unfolding unionBytes
-members-there U n R = refl
 
 in-refusal : (n p : ℕ) (W : List ℕ) → 1 ≤ n → resultIn n p W ≡ refusal n p
 in-refusal zero p W h = absurd (omega arith)

@@ -4,16 +4,14 @@ use mathlib.Core.List.{List, _++_}
 use Prim.Native.Nat.{ℕ, zero, suc, _+_}
 use lib.ListN.{length, length-append}
 use Rattle.cover.specs.Lists.{gather}
+use Rattle.cover.specs.Term.{Question}
 use Rattle.book.specs.Word.{word}
-use Rattle.exploration.specs.Union.{membersFrom, memberEnd, membersOf}
+use Rattle.exploration.specs.Union.{membersFrom, membersOf}
+use Rattle.exploration.proofs.Written.{members-of}
+use Rattle.exploration.proofs.Members.{members-count}
 use Rattle.explore.specs.Held.{Standing}
 use Rattle.printing.specs.Printed.{ascii, memberLine, line, printed}
 use Rattle.printing.specs.Answer.{resultIn, Stands}
-
-members-count : (W : List ℕ) (i n : ℕ) → length (membersFrom W i n) ≡ n
-unfolding membersFrom
-members-count W i zero = refl
-members-count W i (suc n) = ap suc (members-count W (memberEnd W i) n)
 
 -- the header's words that are read
 pub record Words (W : List ℕ) (m e f : ℕ) : Type 0 where
@@ -33,9 +31,11 @@ module _ (number place : ℕ) (W : List ℕ) where
   module _ {m e f : ℕ} (h : Words W m e f) (complete : number ≡ 0) where
     pub union-text : printed (resultIn number place W)
         ≡ line (ascii "members ") m (ascii " explored ") e ++ gather memberLine (membersFrom W f m)
-    unfolding membersOf
     union-text =
         ap (λ (n : ℕ). printed (resultIn n place W)) complete
+        ∙ ap
+        (λ (U : List Question).
+        line (ascii "members ") (length U) (ascii " explored ") (word W 2) ++ gather memberLine U) (members-of W)
         ∙ ap (λ (n : ℕ). line (ascii "members ") n (ascii " explored ") (word W 2) ++ lines) count
         ∙ ap₂ (λ (n : ℕ) (l : List ℕ). line (ascii "members ") m (ascii " explored ") n ++ l) (sym (h .explored))
         (ap₂ (λ (i n : ℕ). gather memberLine (membersFrom W i n)) (sym (h .first)) (sym (h .members)))

@@ -21,7 +21,8 @@ use Rattle.cover.proofs.Padded.{desk-apart}
 use Rattle.book.specs.Word.{byte}
 use Rattle.exploration.specs.Union.{membersFrom, memberEnd}
 use Rattle.explore.specs.Held.{Standing}
-use Rattle.explore.proofs.Finding.{question-from, part-is}
+use Rattle.exploration.proofs.Members.{question-from}
+use Rattle.explore.proofs.Finding.{part-is}
 use Rattle.printing.specs.Printed.{ascii, decimal, marked, joined, termText, atomText, memberLine, line}
 
 less-one : (n : ℕ) → 0 < n → n ≡ suc (n - 1)

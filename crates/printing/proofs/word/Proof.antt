@@ -1,9 +1,9 @@
 -- `printing::word` meets its contract: two bytes, the low one first.
 use borrow.Author.Needs.{needs}
 use native.Mathlib.Omega.{arith}
-use mathlib.Core.Path.{refl}
+use mathlib.Core.Path.{sym}
 use Prim.Native.Nat.{_+_}
-use Rattle.book.specs.Word.{word}
+use Rattle.book.proofs.Reading.{word-is}
 use Rattle.printing.proofs.word.Statement.{statement}
 use Rattle.printing.proofs.word.Tie as tie
 
@@ -31,8 +31,7 @@ add-result-2 c =
     omega (arith, c .shared-slice-known2 .given (a .i), c .shared-slice-known2 .given (a .i + 1))
 
 returns : tie.Need-returns
-unfolding word
-returns c = refl
+returns c = let a = c .before .before .args in sym (word-is (a .s .now) (a .i))
 
 pub word-spec : {M : Type 1} → statement M
 word-spec =

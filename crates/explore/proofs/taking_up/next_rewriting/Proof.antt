@@ -10,11 +10,12 @@ use Rattle.cover.specs.Term.{Question}
 use Rattle.cover.specs.Record.{desk, questionOf}
 use Rattle.book.specs.Header.{rules as rulesOf}
 use Rattle.book.specs.Book.{ruleAt, rulesFrom, ruleStart, bookOf}
+use Rattle.book.proofs.Reading.{rules-left}
 use Rattle.unify.specs.Held.{answered}
 use Rattle.unify.specs.Step.{next}
 use Rattle.exploration.specs.Run.{apart}
 use Rattle.explore.specs.Taking.{nextAmong, taken}
-use Rattle.explore.proofs.Among.{rules-left, among-none, among-found, among-later, rules-few}
+use Rattle.explore.proofs.Among.{among-none, among-found, among-later, rules-few}
 use Rattle.explore.proofs.Among.{start-fits, start-inside, parts-in, found-is, few-choices}
 use Rattle.explore.proofs.taking_up.next_rewriting.Statement.{statement}
 use Rattle.explore.proofs.taking_up.next_rewriting.Tie as tie
