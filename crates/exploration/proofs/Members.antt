@@ -15,14 +15,12 @@ use Rattle.cover.proofs.Begun.{begun-long, begun-record}
 use Rattle.cover.proofs.Places.{question-at}
 use Rattle.cover.proofs.Copied.{atoms-copied}
 use Rattle.book.specs.Word.{byte}
+use Rattle.book.proofs.Steps.{one-more}
 use Rattle.exploration.specs.Union.{membersBytes, membersFrom, memberEnd}
 
 -- where the member after the one at hand stands
 abbrev pub next : List ℕ → ℕ → ℕ
 next W at = at + (1 + byte W at * 5)
-
-pub one-more : (n i : ℕ) → i < n → n - i ≡ suc (n - (i + 1))
-one-more n i h = omega arith
 
 pub end-at : (W : List ℕ) (at : ℕ) → memberEnd W at ≡ next W at
 end-at W at = omega arith

@@ -117,7 +117,8 @@ module _ (B : List ℕ) (room : ℕ) where
   comes-says (ran l s) = outcome-says l s (outcomeOf B) (outcome-ends B)
 
   -- and no other result says it
-  earliest-same : {n p m q : ℕ} → (n < m) ⊎ ((n ≡ m) × (p ≤ q)) → (m < n) ⊎ ((m ≡ n) × (q ≤ p)) → (n ≡ m) × (p ≡ q)
+  earliest-same : {n p m q : ℕ} → (n < m) ⊎ ((n ≡ m) × (p ≤ q)) → (m < n) ⊎ ((m ≡ n) × (q ≤ p))
+      → (n ≡ m) × (p ≡ q)
   earliest-same (inl a) (inl b) = absurd (omega arith)
   earliest-same (inl a) (inr b) = absurd (omega (arith, b .0))
   earliest-same (inr a) (inl b) = absurd (omega (arith, a .0))

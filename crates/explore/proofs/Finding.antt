@@ -17,9 +17,10 @@ use Rattle.cover.proofs.Decides.{covers-any}
 use Rattle.cover.proofs.Places.{question-at}
 use Rattle.cover.proofs.Steps.{atoms-none, atoms-more}
 use Rattle.book.specs.Word.{byte}
+use Rattle.book.proofs.Steps.{one-more}
 use Rattle.exploration.specs.Run.{Test, covered}
 use Rattle.exploration.specs.Union.{membersFrom, memberEnd}
-use Rattle.exploration.proofs.Members.{next, one-more, end-at, count-from, members-more, members-none}
+use Rattle.exploration.proofs.Members.{next, end-at, count-from, members-more, members-none}
 use Rattle.explore.specs.Held.{Standing, beforeCovering}
 
 -- one candidate more

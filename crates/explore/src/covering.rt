@@ -3,20 +3,21 @@ ghost use mathlib.Core.Path.{_≡_};
 ghost use Prim.Native.Nat.{_≤_};
 ghost use Rattle.cover.specs.Search.{covers};
 ghost use Rattle.cover.specs.Record.{desk, questionOf, Sound};
-ghost use Rattle.exploration.specs.Union.{membersFrom};
+ghost use Rattle.exploration.specs.Union.{membersFrom, firstAt};
 ghost use Rattle.explore.specs.Held.{Standing, beforeCovering};
+use super::FIRST;
 
 // The number of the first of the count members that covers the rewriting, count where none does. One candidate for the
 // member's first atom is asked at a time, so that the search ends at the first that serves.
 pub fn member_covering(work: &[u8], count: usize, rewriting: &[u8]) -> usize
-    requires { ⌜ (count ≤ 64) × Standing (now work) 8 count × Sound desk (now rewriting) ⌝ }
+    requires { ⌜ (count ≤ 64) × Standing (now work) firstAt count × Sound desk (now rewriting) ⌝ }
     ensures { λ r. ⌜ r
         ≡ beforeCovering covers
         (questionOf desk (now (rewriting .entry)))
-        (membersFrom (now (work .entry)) 8 count) ⌝ }
+        (membersFrom (now (work .entry)) firstAt count) ⌝ }
 {
     let w = rewriting[0] as usize;
-    let mut at = 8;
+    let mut at = FIRST;
     let mut i = 0;
     let found = 'members: loop {
         if count <= i {

@@ -10,6 +10,12 @@ mod working;
 
 pub use whole_run::run;
 
+// "It takes at most 8 + 64 x 41 = 2,632 bytes": what an output must have room for.
+pub const OUTPUT: usize = 2632;
+
+// "Offset of the first member (8)".
+pub const FIRST: usize = 8;
+
 // How far the working array is filled: where its members end, how many they are, and how many of them, from the first
 // on, are explored.
 pub struct Extent {

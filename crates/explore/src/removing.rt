@@ -4,6 +4,7 @@ ghost use Prim.Native.Nat.{_≤_};
 ghost use Rattle.cover.specs.Record.{desk, questionOf, Sound};
 ghost use Rattle.explore.specs.Held.{Standing, Kept, Working, stateOf, rest};
 use super::Extent;
+use super::FIRST;
 use super::Moved;
 use super::working::move_down;
 
@@ -44,7 +45,7 @@ pub fn remove_covered(work: &mut [u8], filled: Extent, rewriting: &[u8]) -> Exte
         × (stateOf (now (work .exit)) r
         ≡ rest (stateOf (now (work .entry)) filled) (questionOf desk (now (rewriting .entry)))) ⌝ }
 {
-    let explored = keep_uncovered(work, 8, 8, filled.front, rewriting);
+    let explored = keep_uncovered(work, FIRST, FIRST, filled.front, rewriting);
     let others = keep_uncovered(
         work,
         explored.from,

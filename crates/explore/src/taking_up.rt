@@ -12,6 +12,7 @@ ghost use Rattle.unify.specs.Held.{QuestionIn};
 ghost use Rattle.explore.specs.Held.{Working, OldestIs};
 ghost use Rattle.explore.specs.Taking.{nextAmong, taken};
 use super::Extent;
+use super::FIRST;
 use super::Taken;
 
 // The record at the front of 56 bytes, the rest 255.
@@ -34,7 +35,7 @@ pub fn oldest(work: &[u8], filled: Extent) -> [u8; 56]
     requires { ⌜ Working (now work) filled × (filled .front < filled .count) ⌝ }
     ensures { λ r. ⌜ OldestIs (now (work .entry)) filled r ⌝ }
 {
-    let mut at = 8;
+    let mut at = FIRST;
     let mut passed = 0;
     while passed < filled.front {
         at += 1 + (work[at] as usize) * 5;

@@ -12,6 +12,8 @@ ghost use Rattle.explore.specs.Held.{RanIs};
 use super::Answer;
 use super::Explored;
 use super::Extent;
+use super::FIRST;
+use super::OUTPUT;
 use super::Ran;
 use super::exploring::explore;
 use super::taking_up::copy_record;
@@ -19,11 +21,6 @@ use super::taking_up::oldest;
 use super::working::append;
 use super::working::copy_out;
 use super::working::fill_header;
-
-// "At most 8 + 64 x 41 = 2,632 bytes", the first member after a header of 8.
-const SIZE: usize = 2632;
-
-const FIRST: usize = 8;
 
 // The form of the book's question.
 fn first_member(book: &[u8]) -> [u8; 56]
@@ -77,7 +74,7 @@ fn run_sound(book: &[u8], out: &mut [u8]) -> Answer
         (r .place)
         (now (out .exit)) ⌝ }
 {
-    let mut work = [0u8; SIZE];
+    let mut work = [0u8; OUTPUT];
     let ran = explore_all(book, &mut work);
     match ran {
         Ran::Complete(filled, explored) => {
@@ -105,7 +102,7 @@ pub fn run(book: &[u8], out: &mut [u8]) -> Answer
         (r .place)
         (now (out .exit)) ⌝ }
 {
-    if out.len() < SIZE {
+    if out.len() < OUTPUT {
         return Answer {
             number: 1,
             place: 0,

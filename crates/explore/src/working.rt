@@ -5,7 +5,8 @@ ghost use mathlib.Core.List.{_++_};
 ghost use Prim.Native.Nat.{_+_, _*_, _≤_, _<_};
 ghost use lib.ListN.{length, getD, take, drop};
 ghost use Rattle.cover.specs.Record.{desk, questionOf, recordBytes, Sound};
-ghost use Rattle.exploration.specs.Union.{wordBytes};
+ghost use Rattle.exploration.specs.Union.{wordBytes, firstAt};
+use super::FIRST;
 
 // Copies the first len bytes out; the output's other bytes stay.
 pub fn copy_out(work: &[u8], len: usize, out: &mut [u8])
@@ -62,13 +63,13 @@ pub fn put_word(work: &mut [u8], at: usize, n: usize)
 
 // Fills the header: members, questions explored, offset of the first member, total length.
 pub fn fill_header(work: &mut [u8], count: usize, explored: usize, len: usize)
-    requires { ⌜ (count < 65536) × (explored < 65536) × (len < 65536) × (8 ≤ length (now work)) ⌝ }
+    requires { ⌜ (count < 65536) × (explored < 65536) × (len < 65536) × (firstAt ≤ length (now work)) ⌝ }
     ensures { λ r. ⌜ now (work .exit)
         ≡ wordBytes count
-        ++ (wordBytes explored ++ (wordBytes 8 ++ (wordBytes len ++ drop 8 (now (work .entry))))) ⌝ }
+        ++ (wordBytes explored ++ (wordBytes firstAt ++ (wordBytes len ++ drop firstAt (now (work .entry))))) ⌝ }
 {
     put_word(work, 0, count);
     put_word(work, 2, explored);
-    put_word(work, 4, 8);
+    put_word(work, 4, FIRST);
     put_word(work, 6, len);
 }

@@ -56,7 +56,7 @@ pub fn answer(book: &[u8], text: &mut [u8]) -> usize
     if text.len() < TEXT {
         return 0;
     }
-    let mut output = [0u8; 2632];
+    let mut output = [0u8; explore::OUTPUT];
     let r = explore::run(book, &mut output);
     let number = r.number;
     let place = r.place;

@@ -111,7 +111,9 @@ module _ {C X : Type 0} (B : Builder C X) where
       rest = choices (B .heads) (length q)
 
       Below : Type 0
-      Below = (w′ : ℕ) (L′ : Question) (b′ : Bool) (τ : C) → build B w′ L′ b′ q τ ≡ collect (given w′ L′ b′ q τ) rest
+      Below =
+          (w′ : ℕ) (L′ : Question) (b′ : Bool) (τ : C)
+          → build B w′ L′ b′ q τ ≡ collect (given w′ L′ b′ q τ) rest
 
       sent-on : (w′ : ℕ) (o : Option C) → Below
           → listOf o (λ τ. build B w′ L true q τ) ≡ collect (λ ds. bind o (λ τ. given w′ L true q τ ds)) rest

@@ -151,7 +151,8 @@ moved k r q {F} {G} ap′ =
     freshly : (z : ℕ) → (n : ℕ) × Unknown r n × (z ≡ k + n) → Fresh F (θ z)
     freshly z h = subst (Fresh F) (sym (at z (h .0) (h .2))) (ap′ .fresh (h .0) (h .1))
 
-    apart : (y z : ℕ) → (n : ℕ) × Unknown r n × (y ≡ k + n) → (n : ℕ) × Unknown r n × (z ≡ k + n) → θ y ≡ θ z → y ≡ z
+    apart : (y z : ℕ) → (n : ℕ) × Unknown r n × (y ≡ k + n) → (n : ℕ) × Unknown r n × (z ≡ k + n) → θ y ≡ θ z
+        → y ≡ z
     apart y z g h e =
         g .2
         ∙ ap (λ (n : ℕ). k + n)

@@ -148,7 +148,9 @@ module _ {C D X : Type 0} (B : Builder C X) (E : Builder D X) (R : C → D → T
         ∙ firstOf-same (firstAt B w L b a q m) (firstAt E w L b a q σ)
         (numbers 0 (suc (B .heads)))
         (λ d n.
-        each (λ w′ L′ b′ m′ σ′ g′ k′. first-same q w′ L′ b′ m′ σ′ (λ c n. f c (List·Memᴰ·tail n)) g′ k′) d)
+        each
+        (λ w′ L′ b′ m′ σ′ g′ k′. first-same q w′ L′ b′ m′ σ′ (λ c n. f c (List·Memᴰ·tail n)) g′ k′)
+        d)
         ∙ ap (λ (h : ℕ). firstOf (firstAt E w L b a q σ) (numbers 0 (suc h))) heads-same
         ∙ sym (first-digits E w L b a q σ)
       where

@@ -39,7 +39,8 @@ use Rattle.unify.proofs.joining.join_atoms.Reads as join-atoms-reads
 use Rattle.unify.proofs.powers.choice_count.Reads as choice-count-reads
 
 -- what the next atom's digits give
-abbrev given : List ℕ → List ℕ → Parts → ℕ → ℕ → ℕ → ℕ → Bool → List ℕ → List ℕ → ℕ → Option (ℕ × Question)
+abbrev given : List ℕ → List ℕ → Parts → ℕ → ℕ → ℕ → ℕ → Bool → List ℕ → List ℕ → ℕ
+    → Option (ℕ × Question)
 given Q B p from i more number sent A table =
     firstAt (tableBuilder 32 (ruleOf B p) from) number (questionOf desk A) sent (atomAt desk Q i)
     (atomsAt desk Q (i + 5) (more - 1)) (classesOf table)
