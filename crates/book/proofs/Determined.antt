@@ -1,19 +1,18 @@
 -- Any two results that a contract of this crate allows are equal. Assumes nothing.
-use mathlib.Core.Path.{_≡_, sym, _∙_, ap}
+use mathlib.Core.Path.{_≡_, sym, _∙_}
 use mathlib.Core.Logic.{_⊎_, inl, inr}
 use mathlib.Core.List.{List}
-use Prim.Native.Nat.{ℕ, zero, suc, _+_, _*_, _≤_, _<_}
-use native.Mathlib.Omega.{arith}
+use Prim.Native.Nat.{ℕ, _≤_, _<_}
 use lib.ListN.{getD}
 use lib.Seq.{ext-getD}
-use Rattle.book.specs.declared.Header.{Header}
-use Rattle.book.specs.declared.Refusal.{Refusal}
+use Rattle.reading.specs.declared.Header.{Header}
+use Rattle.reading.specs.declared.Refusal.{Refusal}
 use Rattle.book.specs.declared.Parts.{Parts}
-use Rattle.book.specs.Header.{rules, atoms, HeaderRead, atomSize}
-use Rattle.book.specs.Verdict.{IsVerdict, verdict}
-use Rattle.book.specs.Parts.{StartsAt, partsAt, QuestionRecord}
-use Rattle.book.proofs.Earliest.{le-or-lt}
-use Rattle.book.proofs.Exact.{verdict-only}
+use Rattle.reading.specs.Header.{rules, HeaderRead}
+use Rattle.reading.specs.Verdict.{IsVerdict, verdict}
+use Rattle.book.specs.Parts.{StartsAt, partsAt}
+use Rattle.covering.proofs.Tests.{le-or-lt}
+use Rattle.reading.proofs.Exact.{verdict-only}
 use Rattle.book.proofs.check.Reads as check-reads
 use Rattle.book.proofs.read.Reads as read-reads
 use Rattle.book.proofs.starts.Reads as starts-reads
@@ -42,21 +41,6 @@ module _ (B : List ℕ) where
       go k (inl h) = s .starts k h ∙ sym (t .starts k h)
       go k (inr h) = s .rest k h ∙ sym (t .rest k h)
 
-  pub question-determined : {r t : List ℕ} → QuestionRecord B r → QuestionRecord B t → r ≡ t
-  question-determined {r} {t} q p = ext-getD 0 r t (q .size ∙ sym (p .size)) (λ i l. go i)
-    where
-      at : (i : ℕ) → (atomSize * atoms B ≤ i) ⊎ (i < atomSize * atoms B) → getD r (1 + i) 0 ≡ getD t (1 + i) 0
-      at i (inl h) = q .rest i h ∙ sym (p .rest i h)
-      at i (inr h) = q .bytes i h ∙ sym (p .bytes i h)
-
-      go : (i : ℕ) → getD r i 0 ≡ getD t i 0
-      go zero = q .count ∙ sym (p .count)
-      go (suc i) =
-          let e : 1 + i ≡ suc i = omega arith in
-          ap (λ (k : ℕ). getD r k 0) (sym e)
-          ∙ at i (le-or-lt (atomSize * atoms B) i)
-          ∙ ap (λ (k : ℕ). getD t k 0) e
-
 -- The same of the contracts themselves, as a caller learns them: `Learnt` at the lifetimes, the arguments, the result
 -- and the exit.
 pub check-learnt : (κs : _) (a : _) (r s : _) (x y : _) → check-reads.Learnt κs a r x → check-reads.Learnt κs a s y
@@ -76,4 +60,4 @@ rule-at-learnt κs a r s x y p q = p ∙ sym q
 
 pub question-learnt : (κs : _) (a : _) (r s : _) (x y : _) → question-reads.Learnt κs a r x
     → question-reads.Learnt κs a s y → r ≡ s
-question-learnt κs a r s x y p q = question-determined _ p q
+question-learnt κs a r s x y p q = p ∙ sym q

@@ -3,27 +3,24 @@ use mathlib.Core.Path.{_≡_, refl, sym, _∙_, ap}
 use mathlib.Core.Bool.{Bool, true, false, cond}
 use mathlib.Core.List.{List}
 use mathlib.Core.Option.{Option, none, some}
-use Prim.Native.Nat.{ℕ, suc, _+_, _-_, _≤_, _<_}
+use Prim.Native.Nat.{ℕ, _+_, _-_, _≤_, _<_}
 use native.Mathlib.Nat.{sub-eq-zero-of-le}
 use native.Mathlib.Omega.{arith}
 use borrow.Author.Tests.{le-leb, lt-leb, lt-ltb, le-ltb}
 use lib.Dec.{ltb}
 use lib.ListN.{length}
-use Rattle.cover.specs.Lists.{orElse}
-use Rattle.cover.proofs.Lists.{no→false, true→T, none≢some}
-use Rattle.book.specs.declared.Refusal.{Refusal}
-use Rattle.book.specs.Word.{byte}
-use Rattle.book.specs.Header.{headerSize, relations, constants, rules, atoms, questionAt, headerOf, inside}
-use Rattle.book.specs.Header.{placesRange, atomSize, atomPlaces}
-use Rattle.book.specs.Book.{bodyCount, headCount, bodyAt, ruleEnd, rulesStart, placesOf}
-use Rattle.book.specs.Refusals.{placeAllowed}
-use Rattle.book.specs.Verdict.{wrongPlaces, ruleRight, wrongRule, wrongPlace, wrongInAtom, wrongInAtoms}
-use Rattle.book.specs.Verdict.{wrongInRules, wrongByte, refuse, told}
-use Rattle.book.specs.Verdict.{inTable, offsetsRight, contents, verdict}
-use Rattle.book.proofs.Conditions.{rule-right}
-
-pub one-more : (n k : ℕ) → k < n → n - k ≡ suc (n - (k + 1))
-one-more n k h = omega arith
+use Rattle.covering.specs.Lists.{orElse}
+use Rattle.covering.proofs.Tests.{no→false, true→T, none≢some, one-more}
+use Rattle.reading.specs.declared.Refusal.{Refusal}
+use Rattle.reading.specs.Word.{byte}
+use Rattle.reading.specs.Header.{headerSize, relations, constants, rules, atoms, questionAt, headerOf, inside}
+use Rattle.reading.specs.Header.{placesRange, atomSize, atomPlaces}
+use Rattle.reading.specs.Book.{bodyCount, headCount, bodyAt, ruleEnd, rulesStart, placesOf}
+use Rattle.reading.specs.Refusals.{placeAllowed}
+use Rattle.reading.specs.Verdict.{wrongPlaces, ruleRight, wrongRule, wrongPlace, wrongInAtom, wrongInAtoms}
+use Rattle.reading.specs.Verdict.{wrongInRules, wrongByte, refuse, told}
+use Rattle.reading.specs.Verdict.{inTable, offsetsRight, contents, verdict}
+use Rattle.reading.proofs.Conditions.{rule-right}
 
 pub same-number : {r t : Refusal} → r ≡ t → r .number ≡ t .number
 same-number e = ap (λ (x : Refusal). x .number) e

@@ -2,11 +2,11 @@
 use mathlib.Core.Path.{_≡_, _∙_, subst}
 use mathlib.Core.Logic.{_⊎_, inl, inr}
 use mathlib.Core.List.{List, _∷_}
-use Prim.Native.Nat.{ℕ, zero, suc, _+_, _≤_, _<_}
+use Prim.Native.Nat.{ℕ, zero, suc, _≤_, _<_}
 use native.Mathlib.Omega.{arith}
 use lib.ListN.{length, getD, set, replicate, length-replicate, getD-replicate, List·getD-eq-default}
 use lib.Seq.{getD-set-same, getD-set-other}
-use Rattle.book.proofs.Earliest.{le-or-lt}
+use Rattle.covering.proofs.Tests.{le-or-lt}
 
 pub zeros : (n j : ℕ) → _≡_ {A = ℕ} (getD (replicate n 0) j 0) 0
 zeros n j = go (le-or-lt n j)
@@ -40,18 +40,3 @@ module _ (x n : ℕ) where
   pub others-zero : (j : ℕ) → 0 < j → getD (x ∷ replicate n 0) j 0 ≡ 0
   others-zero zero l = absurd (omega arith)
   others-zero (suc j) l = zeros n j
-
-  pub zeros-after : (j : ℕ) → getD (x ∷ replicate n 0) (1 + j) 0 ≡ 0
-  zeros-after j = others-zero (1 + j) (omega arith)
-
--- what holds of the j after the first that are below i, and of v at i, holds below i + 1
-pub stored-after : (l : List ℕ) (i v : ℕ) (f : ℕ → ℕ) → 1 + i < length l
-    → ((j : ℕ) → j < i → getD l (1 + j) 0 ≡ f j) → v ≡ f i
-    → (j : ℕ) → j < i + 1 → getD (set l (1 + i) v) (1 + j) 0 ≡ f j
-stored-after l i v f h below e j m = go (le-or-lt i j)
-  where
-    go : (i ≤ j) ⊎ (j < i) → getD (set l (1 + i) v) (1 + j) 0 ≡ f j
-    go (inl g) =
-        let d : i ≡ j = omega arith in
-        subst (λ (x : ℕ). getD (set l (1 + i) v) (1 + x) 0 ≡ f x) d (getD-set-same l (1 + i) v 0 h ∙ e)
-    go (inr g) = stored-other l (1 + i) v (1 + j) (λ d. omega arith) ∙ below j g

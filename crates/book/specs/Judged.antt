@@ -6,11 +6,11 @@ use mathlib.Core.Option.{none}
 use Prim.Native.Nat.{ℕ, _+_, _≤_}
 use lib.Dec.{T}
 use lib.ListN.{length}
-use Rattle.book.specs.declared.Header.{Header}
-use Rattle.book.specs.Header.{headerSize, relations, constants, rules, questionAt, headerOf, relationsRange}
-use Rattle.book.specs.Header.{constantsRange}
-use Rattle.book.specs.Book.{rulesStart}
-use Rattle.book.specs.Verdict.{inTable, offsetsRight, wrongRule}
+use Rattle.reading.specs.declared.Header.{Header}
+use Rattle.reading.specs.Header.{headerSize, relations, constants, rules, questionAt, headerOf, relationsRange}
+use Rattle.reading.specs.Header.{constantsRange}
+use Rattle.reading.specs.Book.{rulesStart}
+use Rattle.reading.specs.Verdict.{inTable, offsetsRight, wrongRule}
 
 -- of a book that refusals 2 to 4 do not hit: its header
 pub record HeaderRight (B : List ℕ) (h : Header) : Type 0 where

@@ -1,9 +1,3 @@
--- What a reader must believe of the stored book, in the order in which to read it.
-pub mod Rule
-pub mod Word
-pub mod Header
-pub mod Book
-pub mod Refusals
-pub mod Verdict
+-- What only the contracts of this crate's functions are said with. That of `check` cites `reading` alone.
 pub mod Judged
 pub mod Parts

@@ -1,12 +1,11 @@
--- What the layers above read of a sound book: where its rules stand, and the question as a member record.
+-- What the layers above read of a sound book: where its rules stand.
 use mathlib.Core.Path.{_≡_}
 use mathlib.Core.List.{List}
-use Prim.Native.Nat.{ℕ, _+_, _*_, _≤_, _<_}
+use Prim.Native.Nat.{ℕ, _≤_, _<_}
 use lib.ListN.{length, getD}
 use Rattle.book.specs.declared.Parts.{Parts}
-use Rattle.book.specs.Word.{byte}
-use Rattle.book.specs.Header.{rules, atoms, questionAt, atomSize}
-use Rattle.book.specs.Book.{bodyCount, headCount, bodyAt, headAt, ruleStart}
+use Rattle.reading.specs.Header.{rules}
+use Rattle.reading.specs.Book.{bodyCount, headCount, bodyAt, headAt, ruleStart}
 
 -- where each rule starts, and after the last one where the rules end; 0 in the room that is left
 pub record StartsAt (B at : List ℕ) : Type 0 where
@@ -17,10 +16,3 @@ pub record StartsAt (B at : List ℕ) : Type 0 where
 -- where the body and the head of the rule at s start, and how many atoms each has
 abbrev pub partsAt : List ℕ → ℕ → Parts
 partsAt B s = record { body = bodyAt B s; bodies = bodyCount B s; head = headAt B s; heads = headCount B s }
-
--- the question's record: "one count byte and its atoms, five bytes each", and 0 in the room that is left
-pub record QuestionRecord (B r : List ℕ) : Type 0 where
-  pub size : length r ≡ 41
-  pub count : getD r 0 0 ≡ atoms B
-  pub bytes : (i : ℕ) → i < atomSize * atoms B → getD r (1 + i) 0 ≡ byte B (questionAt B + i)
-  pub rest : (i : ℕ) → atomSize * atoms B ≤ i → getD r (1 + i) 0 ≡ 0

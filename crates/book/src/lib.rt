@@ -5,35 +5,21 @@ mod word;
 ghost use mathlib.Core.Path.{_≡_};
 ghost use Prim.Native.Nat.{_+_, _≤_};
 ghost use lib.ListN.{length};
-ghost use Rattle.book.specs.Header.{HeaderRead};
-ghost use Rattle.book.specs.Verdict.{verdict, Sound};
-ghost use Rattle.book.specs.Parts.{StartsAt, partsAt, QuestionRecord};
+ghost use Rattle.reading.specs.Header.{HeaderRead};
+ghost use Rattle.reading.specs.Verdict.{verdict, Sound};
+ghost use Rattle.book.specs.Parts.{StartsAt, partsAt};
+ghost use Rattle.covering.specs.Record.{desk};
+ghost use Rattle.cover.specs.Buffer.{heldIn};
+ghost use Rattle.reading.specs.Book.{bookOf};
 use judge::contents;
 use judge::in_table;
 use judge::offsets_right;
+pub use reading::Header;
+pub use reading::Refusal;
 use word::ATOM;
 use word::HEADER;
 use word::wide;
 use word::word;
-
-// The nine words of a book's header, in their order.
-pub struct Header {
-    pub relations: usize,
-    pub constants: usize,
-    pub rules: usize,
-    pub atoms: usize,
-    pub allowed: usize,
-    pub table: usize,
-    pub start: usize,
-    pub question: usize,
-    pub total: usize,
-}
-
-// Why a book is refused, and the place; 0 and 0 where it is not.
-pub struct Refusal {
-    pub number: u8,
-    pub place: usize,
-}
 
 // Where the body and the head of a rule start in the book, and how many atoms each has.
 pub struct Parts {
@@ -121,15 +107,15 @@ pub fn rule_at(book: &[u8], s: usize) -> Parts
     }
 }
 
-// The question of a sound book as a member record: its count and its atoms.
-pub fn question(book: &[u8]) -> [u8; 41]
+// The question of a sound book as a member record, the rest 255.
+pub fn question(book: &[u8]) -> [u8; 56]
     requires { ⌜ Sound (now book) ⌝ }
-    ensures { λ r. ⌜ QuestionRecord (now (book .entry)) r ⌝ }
+    ensures { λ r. ⌜ r ≡ heldIn desk 56 (bookOf (now (book .entry)) .question) ⌝ }
 {
     let h = read(book);
     let q = h.question;
     let n = ATOM * h.atoms;
-    let mut r = [0u8; 41];
+    let mut r = [255u8; 56];
     r[0] = h.atoms as u8;
     let mut i: usize = 0;
     while i < n {

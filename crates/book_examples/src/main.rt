@@ -71,10 +71,10 @@ fn show_span(at: usize, n: usize) {
 }
 
 // The bytes of a record.
-fn show_record(r: &[u8; 41]) {
+fn show_record(r: &[u8; 56]) {
     put(b"question:");
     let mut i: usize = 0;
-    while i < 41 {
+    while i < 56 {
         put(b" ");
         byte(r[i]);
         i = i + 1;

@@ -12,17 +12,18 @@ use borrow.Author.Tests.{eq-eqb, ne-eqb, ltb-true, ltb-false}
 use lib.Dec.{T, eqb, ltb, eqb→eq}
 use lib.ListN.{length, getD, take, drop, set}
 use lib.Seq.{getD-take, getD-drop, getD-set-same, getD-set-other}
-use Rattle.cover.specs.Lists.{_∈_}
-use Rattle.cover.specs.Term.{Term, Atom, Sub, on-term, on-atom, eqAtom}
-use Rattle.cover.specs.Record.{Layout, desk, size, termOf, argsAt, atomAt, atomsAt, isTerm, unused, usedFirst}
-use Rattle.cover.specs.Record.{isAtom, areAtoms, byteOf, placesBytes, atomBytes, AtomFits, AtomIn}
+use Rattle.covering.specs.Lists.{_∈_}
+use Rattle.covering.specs.Term.{Term, Atom, Sub, on-term, on-atom, eqAtom}
+use Rattle.covering.specs.Record.{Layout, desk, size, termOf, argsAt, atomAt, atomsAt, isTerm, unused, usedFirst}
+use Rattle.covering.specs.Record.{isAtom, areAtoms, byteOf, placesBytes, atomBytes, AtomFits}
+use Rattle.cover.specs.Buffer.{AtomIn}
 use Rattle.cover.specs.Building.{subOf}
-use Rattle.cover.proofs.Lists.{either, both, fst-of, snd-of, true→T, T→true, no→false}
-use Rattle.cover.proofs.Terms.{atom-path, eqAtom→eq, eqAtom-refl}
-use Rattle.cover.proofs.Bytes.{term-var, term-con, atom-used, term-constant}
-use Rattle.cover.proofs.RoundTrip.{Apart, atoms-read, atoms-back}
-use Rattle.cover.proofs.Lengths.{atom-long}
-use Rattle.cover.proofs.Fitting.{term-is-used}
+use Rattle.covering.proofs.Tests.{either, both, fst-of, snd-of, true→T, T→true, no→false}
+use Rattle.covering.proofs.Terms.{atom-path, eqAtom→eq, eqAtom-refl}
+use Rattle.covering.proofs.Bytes.{term-var, term-con, atom-used, term-constant}
+use Rattle.covering.proofs.RoundTrip.{Apart, atoms-read, atoms-back}
+use Rattle.covering.proofs.Lengths.{atom-long}
+use Rattle.covering.proofs.Fitting.{term-is-used}
 
 further : (i k : ℕ) → i + suc k ≡ i + 1 + k
 further i k = omega arith

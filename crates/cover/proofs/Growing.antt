@@ -9,16 +9,19 @@ use Prim.Native.Nat.{ℕ, _+_, _*_, _-_, _≤_, _<_}
 use native.Mathlib.Nat.{mul-le-mul-right}
 use native.Mathlib.Omega.{arith}
 use lib.ListN.{length, getD, length-append}
-use Rattle.cover.specs.Lists.{_∈_}
-use Rattle.cover.specs.Term.{Atom, Question, Sub, on-atom, on-question, terms, eqAtom}
-use Rattle.cover.specs.Form.{dedup, firsts, numbering, form}
-use Rattle.cover.specs.Record.{Layout, desk, size, questionOf, heldIn, AtomFits, Fits, Sound, Room}
+use Rattle.covering.specs.Lists.{_∈_}
+use Rattle.covering.specs.Term.{Atom, Question, Sub, on-atom, on-question, terms, eqAtom}
+use Rattle.covering.specs.Form.{dedup, firsts, numbering, form}
+use Rattle.covering.specs.Record.{Layout, desk, size, questionOf, AtomFits, Fits, Sound}
+use Rattle.cover.specs.Buffer.{heldIn, Room}
 use Rattle.cover.specs.Building.{has, added, newNumber, subOf}
-use Rattle.cover.proofs.Lists.{either, map-append}
-use Rattle.cover.proofs.RoundTrip.{Apart}
-use Rattle.cover.proofs.Padded.{desk-apart, held-question, held-room, held-sound}
+use Rattle.covering.proofs.Lists.{map-append}
+use Rattle.covering.proofs.Tests.{either}
+use Rattle.covering.proofs.RoundTrip.{Apart}
+use Rattle.cover.proofs.Padded.{held-question, held-room, held-sound}
+use Rattle.covering.proofs.RoundTrip.{desk-apart}
 use Rattle.cover.proofs.Leftward.{added-old, added-new}
-use Rattle.cover.proofs.Fitting.{sound-fits, dedup-fits, renumber-fits, form-fits}
+use Rattle.covering.proofs.Fitting.{sound-fits, dedup-fits, renumber-fits, form-fits}
 use Rattle.cover.proofs.Renaming.{on-table}
 
 -- B holds just these atoms, and there is room for some more

@@ -6,20 +6,13 @@ use mathlib.Core.Logic.{_⊎_, inl, inr}
 use mathlib.Core.List.{List, [], _∷_, _++_, append-assoc, append-nil}
 use Prim.Native.Nat.{ℕ}
 use lib.Dec.{T, eqb, eqb→eq}
-use Rattle.cover.specs.Lists.{any, keep}
-use Rattle.cover.specs.Term.{Term, var, con, Question, eqAtom}
-use Rattle.cover.specs.Form.{dedup, firsts}
+use Rattle.covering.specs.Lists.{keep}
+use Rattle.covering.specs.Term.{Term, var, con, Question, eqAtom}
+use Rattle.covering.specs.Form.{dedup, firsts}
 use Rattle.cover.specs.Building.{has, added, addedAll, seen, allSeen}
-use Rattle.cover.proofs.Lists.{either, keep-same, keep-all, true→T}
-use Rattle.cover.proofs.Terms.{eqAtom→eq}
-
-any-append : {A : Type 0} (p : A → Bool) (s t : List A) → any p (s ++ t) ≡ any p s || any p t
-any-append p [] t = refl
-any-append p (x ∷ s) t = go (p x) (any-append p s t)
-  where
-    go : (b : Bool) → any p (s ++ t) ≡ any p s || any p t → b || any p (s ++ t) ≡ (b || any p s) || any p t
-    go true e = refl
-    go false e = e
+use Rattle.covering.proofs.Lists.{any-append, keep-same, keep-all}
+use Rattle.covering.proofs.Tests.{either, true→T}
+use Rattle.covering.proofs.Terms.{eqAtom→eq}
 
 keep-keep : {A : Type 0} (p q : A → Bool) (l : List A) → keep p (keep q l) ≡ keep (λ x. q x && p x) l
 keep-keep p q [] = refl

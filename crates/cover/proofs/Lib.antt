@@ -1,26 +1,17 @@
--- The laws of covering, for this crate's proofs and for the crates above.
-pub mod Lists
-pub mod Terms
-pub mod Preorder
-pub mod Decides
-pub mod First
-pub mod Form
-pub mod Same
-pub mod Bytes
-pub mod Places
-pub mod Copied
+-- The laws that the functions of covering cite.
+
+-- the map as the code holds it; the search, a candidate and an atom at a time
 pub mod Maps
+pub mod Ahead
 pub mod Steps
-pub mod Answers
-pub mod Lengths
-pub mod RoundTrip
+-- a record in a buffer that is filled atom by atom
 pub mod Padded
-pub mod Begun
+pub mod Within
+pub mod Growing
+-- a form is built from left to right
 pub mod Leftward
-pub mod Fitting
 pub mod Renaming
 pub mod AtomBytes
 pub mod Passing
-pub mod Growing
-pub mod Wider
+-- what each contract determines
 pub mod Determined

@@ -11,12 +11,12 @@ use lib.Dec.{eqb}
 use lib.ListN.{length, getD, set, replicate}
 use lib.Seq.{getD-set-same, getD-set-other}
 use Rattle.cover.specs.declared.Placed.{Placed}
-use Rattle.cover.specs.Lists.{isSome}
-use Rattle.cover.specs.Search.{Part, nowhere, also, placeTerm, placeTerms, placeAtom}
-use Rattle.cover.specs.Record.{Layout, termOf, argsAt, atomAt}
+use Rattle.covering.specs.Lists.{isSome}
+use Rattle.covering.specs.Search.{Part, nowhere, also, placeTerm, placeTerms, placeAtom}
+use Rattle.covering.specs.Record.{Layout, termOf, argsAt, atomAt}
 use Rattle.cover.specs.Held.{partOf, said}
-use Rattle.cover.proofs.Lists.{either}
-use Rattle.cover.proofs.Bytes.{term-same, term-var, term-con, args-more, args-end}
+use Rattle.covering.proofs.Tests.{either}
+use Rattle.covering.proofs.Bytes.{term-same, term-var, term-con, args-more, args-end}
 
 pub said-yes : (p : Placed) → p .ok ≡ true → said p ≡ some (partOf (p .map))
 unfolding said

@@ -1,23 +1,24 @@
 -- A record at the front of n bytes, the rest 255: it is read back as it was written, and an atom put after its own
 -- makes the record of one atom more. Assumes nothing.
 use mathlib.Core.Path.{_≡_, refl, sym, _∙_, ap, ap₂, subst}
-use mathlib.Core.List.{List, [], _∷_, _++_, append-assoc, append-nil}
-use Prim.Native.Nat.{ℕ, suc, _+_, _*_, _-_, _≤_, _<_}
+use mathlib.Core.List.{List, [], _∷_, _++_, append-nil}
+use Prim.Native.Nat.{ℕ, suc, _+_, _*_, _-_, _≤_}
 use native.Mathlib.Omega.{arith}
-use native.Mathlib.Numerals.{add-one}
+use native.Mathlib.Nat.{zero-add}
 use lib.Dec.{T}
-use lib.ListN.{length, getD, take, drop, set, replicate, length-append, length-drop, length-replicate}
-use lib.ListN.{replicate-append-replicate}
-use lib.Seq.{paste, paste-suc, take-at, drop-append-add, drop-at, getD-drop}
-use Rattle.cover.specs.Lists.{_∈_, gather}
-use Rattle.cover.specs.Term.{Atom, Question}
-use Rattle.cover.specs.Record.{Layout, desk, size, atomsAt, areAtoms, questionOf, atomBytes, recordBytes}
-use Rattle.cover.specs.Record.{heldIn, AtomFits, Fits, Sound, Room}
-use Rattle.cover.proofs.Lengths.{atoms-long, record-long}
-use Rattle.cover.proofs.RoundTrip.{Apart, atoms-read}
-
-pub desk-apart : Apart desk
-desk-apart = record { variables = omega arith; constants = omega arith }
+use lib.ListN.{length, getD, take, drop, set, replicate, length-append, length-replicate}
+use lib.Seq.{paste, take-at, drop-append-add}
+use Rattle.covering.specs.Lists.{_∈_, gather}
+use Rattle.covering.specs.Term.{Atom, Question}
+use Rattle.covering.specs.Record.{Layout, size, atomsAt, areAtoms, questionOf, atomBytes, recordBytes}
+use Rattle.covering.specs.Record.{AtomFits, Fits, Sound}
+use Rattle.cover.specs.Buffer.{AtomsIn, heldIn, Room}
+use Rattle.covering.proofs.Lengths.{count-atoms, atoms-long, record-is, record-long}
+use Rattle.covering.proofs.RoundTrip.{Apart, atoms-read, atoms-back}
+use Rattle.covering.proofs.Lists.{gather-append}
+use Rattle.covering.proofs.Slices.{rest-free}
+use Rattle.covering.proofs.Begun.{begun-record, begun-long}
+use Rattle.covering.proofs.Wider.{Wider, record-written}
 
 module _ (L : Layout) (n : ℕ) (A : Question) where
   pub held-count : getD (heldIn L n A) 0 0 ≡ length A
@@ -63,19 +64,6 @@ module _ (L : Layout) (n : ℕ) (A : Question) where
       }
 
 -- an atom put after those that are there
-gather-append : {A B : Type 0} (f : A → List B) (s t : List A) → gather f (s ++ t) ≡ gather f s ++ gather f t
-gather-append f [] t = refl
-gather-append {B = B} f (x ∷ s) t =
-    ap (λ (l : List B). f x ++ l) (gather-append f s t) ∙ sym (append-assoc (f x) (gather f s) (gather f t))
-
-pub rest-free : (m k : ℕ) → m ≤ k → drop {A = ℕ} m (replicate k 255) ≡ replicate (k - m) 255
-rest-free m k h =
-    ap (drop {A = ℕ} m) (ap (λ x. replicate x 255) (sym back) ∙ sym (replicate-append-replicate m (k - m) 255))
-    ∙ drop-at (replicate m 255) (replicate (k - m) 255) m (length-replicate m 255)
-  where
-    back : m + (k - m) ≡ k
-    back = omega arith
-
 module _ (L : Layout) (n : ℕ) (A : Question) (a : Atom) (s : List ℕ) where
   one-more : length (A ++ a ∷ []) ≡ length A + 1
   one-more = length-append A (a ∷ [])
@@ -131,11 +119,46 @@ put-after L n B a s r e =
     count : getD B 0 0 ≡ length (questionOf L B)
     count = ap (λ x. getD x 0 0) (r .holds) ∙ held-count L n (questionOf L B)
 
--- one byte more is copied
-pub paste-next : (d : List ℕ) (start : ℕ) (s : List ℕ) (at j : ℕ) (e : List ℕ) → e ≡ paste d start (drop at s) j
-    → start + j < length d → at + j < length s
-    → set e (start + j) (getD s (at + j) 0) ≡ paste d start (drop at s) (j + 1)
-paste-next d start s at j e q hd hs =
-    ap₂ (λ x v. set x (start + j) v) q (sym (getD-drop at s j 0))
-    ∙ paste-suc d start (drop at s) j 0 hd (rw (length-drop at s) (omega arith))
-    ∙ ap (paste d start (drop at s)) (sym (add-one j))
+-- a record that a buffer begins with, copied to the front of n bytes of 255, is the record that they hold
+pub begun-held : (L : Layout) (B : List ℕ) → Apart L → Sound L B → (n : ℕ) → 1 + getD B 0 0 * size L ≤ n
+    → paste (replicate n 255) 0 B (1 + getD B 0 0 * size L) ≡ heldIn L n (questionOf L B)
+unfolding heldIn
+begun-held L B ap-L s n h =
+    ap₂ (λ (l r : List ℕ). l ++ r) (begun-record L B ap-L s)
+    (rest-free (0 + (1 + getD B 0 0 * size L)) n (omega arith)
+    ∙ ap (λ (k : ℕ). replicate (n - k) 255) (zero-add (1 + getD B 0 0 * size L) ∙ sym (begun-long L B)))
+
+-- sound atoms that stand elsewhere, copied behind their count, are the record of their question
+pub copied-held : (L : Layout) → Apart L → (B : List ℕ) (i n m : ℕ) → AtomsIn L B i n → n * size L ≤ m
+    → paste (n ∷ replicate m 255) 1 (drop i B) (n * size L) ≡ heldIn L (suc m) (atomsAt L B i n)
+unfolding heldIn
+copied-held L ap-L B i n m a h =
+    ap₂ (λ (l r : List ℕ). n ∷ (l ++ r)) (sym (atoms-back L ap-L B n i (a .fits) (a .sound))) left
+    ∙ ap (λ (k : ℕ). k ∷ gather (atomBytes L) A ++ replicate (suc m - length (recordBytes L A)) 255) (sym count)
+    ∙ ap (λ (l : List ℕ). l ++ replicate (suc m - length (recordBytes L A)) 255) (sym (record-is L A))
+  where
+    A : Question
+    A = atomsAt L B i n
+
+    count : length (atomsAt L B i n) ≡ n
+    count = count-atoms L B n i
+
+    long : length (recordBytes L A) ≡ 1 + n * size L
+    long = record-long L A ∙ ap (λ (k : ℕ). 1 + k * size L) count
+
+    left : drop (1 + n * size L) (n ∷ replicate m 255) ≡ replicate (suc m - length (recordBytes L A)) 255
+    left =
+        ap (λ (k : ℕ). drop k (n ∷ replicate m 255)) one
+        ∙ rest-free (n * size L) m h
+        ∙ ap (λ (k : ℕ). replicate k 255) fewer
+      where
+        one : 1 + n * size L ≡ suc (n * size L)
+        one = omega arith
+
+        fewer : m - n * size L ≡ suc m - length (recordBytes L A)
+        fewer = omega (arith, long)
+
+-- a wider layout with the same places holds a record alike
+pub held-written : (L M : Layout) → Wider L M → (n : ℕ) (A : Question) → heldIn L n A ≡ heldIn M n A
+unfolding heldIn
+held-written L M w n A = ap (λ (r : List ℕ). r ++ replicate (n - length r) 255) (record-written L M w A)

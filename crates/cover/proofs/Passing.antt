@@ -6,12 +6,13 @@ use mathlib.Core.List.{List, [], _∷_, _++_, append-nil, List·Memᴰ·head, Me
 use Prim.Native.Nat.{ℕ, _+_, _-_, _<_}
 use native.Mathlib.Omega.{arith}
 use lib.Seq.{append-snoc}
-use Rattle.cover.specs.Lists.{_∈_, any}
-use Rattle.cover.specs.Term.{Atom, Question, terms, eqAtom}
-use Rattle.cover.specs.Record.{Layout, size, atomAt, atomsAt, AtomIn}
-use Rattle.cover.specs.Held.{AtomsIn}
+use Rattle.covering.specs.Lists.{_∈_, any}
+use Rattle.covering.specs.Term.{Atom, Question, terms, eqAtom}
+use Rattle.covering.specs.Record.{Layout, size, atomAt, atomsAt}
+use Rattle.cover.specs.Buffer.{AtomIn, AtomsIn}
 use Rattle.cover.specs.Building.{added, addedAll, allSeen}
-use Rattle.cover.proofs.Steps.{atoms-none, atoms-more, in-first, in-rest}
+use Rattle.cover.proofs.Within.{in-first, in-rest}
+use Rattle.covering.proofs.Places.{atoms-none, atoms-more}
 use Rattle.cover.proofs.Leftward.{seen-append}
 
 pub in-next : (L : Layout) (B : List ℕ) (i n : ℕ) → AtomsIn L B i n → 0 < n

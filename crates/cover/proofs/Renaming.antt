@@ -10,17 +10,18 @@ use borrow.Author.Tests.{eqb-true, eqb-false}
 use lib.Dec.{T, eqb, eqb→eq, eqb-refl}
 use lib.ListN.{length, getD, set, replicate, length-append, getD-replicate}
 use lib.Seq.{getD-set-same, getD-set-other}
-use Rattle.cover.specs.Lists.{_∈_}
-use Rattle.cover.specs.Term.{Term, var, con, Atom, Question, on-term, on-atom, terms}
-use Rattle.cover.specs.Form.{firsts, index, numbering}
-use Rattle.cover.specs.Record.{desk, termOf, argsAt, TermFits, Fits}
+use Rattle.covering.specs.Lists.{_∈_}
+use Rattle.covering.specs.Term.{Term, var, con, Atom, Question, on-term, on-atom, terms}
+use Rattle.covering.specs.Form.{firsts, index, numbering}
+use Rattle.covering.specs.Record.{desk, termOf, argsAt, TermFits, Fits}
 use Rattle.cover.specs.Building.{has, seen, allSeen, newNumber, Numbered, subOf}
-use Rattle.cover.proofs.Lists.{either, any-in, any-out, cond-yes, true→T, T→true, false→no}
-use Rattle.cover.proofs.Terms.{terms-in, on-atom-same}
-use Rattle.cover.proofs.Form.{firsts-in}
-use Rattle.cover.proofs.Bytes.{term-var, term-con, args-more, args-end}
+use Rattle.covering.proofs.Lists.{any-in, any-out}
+use Rattle.covering.proofs.Tests.{either, cond-yes, true→T, T→true, false→no}
+use Rattle.covering.proofs.Terms.{terms-in, on-atom-same}
+use Rattle.covering.proofs.Form.{firsts-in}
+use Rattle.covering.proofs.Bytes.{term-var, term-con, args-more, args-end}
 use Rattle.cover.proofs.Leftward.{has-more, added-old, added-new}
-use Rattle.cover.proofs.Fitting.{index-below, variables-few}
+use Rattle.covering.proofs.Fitting.{index-below, variables-few}
 
 -- where a number stands in a list that grows at its end
 index-old : (S R : List ℕ) (n : ℕ) → has eqb S n ≡ true → index (S ++ R) n ≡ index S n

@@ -1,37 +1,20 @@
 -- Laws of the search over atoms that stand one after the other in bytes: one for each way through the code.
 -- Assumes nothing.
-use mathlib.Core.Path.{_≡_, refl, subst}
+use mathlib.Core.Path.{_≡_, refl}
 use mathlib.Core.Bool.{Bool, true, false}
-use mathlib.Core.List.{List, [], _∷_}
+use mathlib.Core.List.{List}
 use mathlib.Core.Option.{Option, none, some}
-use Prim.Native.Nat.{ℕ, suc, _+_, _-_, _<_}
+use Prim.Native.Nat.{ℕ, _+_, _-_, _<_}
 use native.Mathlib.Omega.{arith}
-use lib.Dec.{T}
 use lib.ListN.{getD, replicate}
-use Rattle.cover.specs.Lists.{all, isSome, bind}
-use Rattle.cover.specs.Term.{Atom, Question}
-use Rattle.cover.specs.Search.{Part, placeAtom, findMap, tried, coversOn}
-use Rattle.cover.specs.Record.{Layout, size, atomAt, atomsAt, isAtom, areAtoms, questionOf, Sound}
-use Rattle.cover.specs.Held.{partOf, AtomsIn, hasCandidate}
-use Rattle.cover.proofs.Lists.{fst-of, snd-of}
-use Rattle.cover.proofs.Bytes.{suc-sub-one}
+use Rattle.covering.specs.Lists.{all, isSome, bind}
+use Rattle.covering.specs.Term.{Atom, Question}
+use Rattle.covering.specs.Search.{Part, placeAtom, findMap}
+use Rattle.cover.specs.Candidates.{tried, coversOn, hasCandidate}
+use Rattle.covering.specs.Record.{Layout, size, atomAt, atomsAt, questionOf}
+use Rattle.cover.specs.Held.{partOf}
+use Rattle.covering.proofs.Places.{atoms-none, atoms-more}
 use Rattle.cover.proofs.Maps.{part-nowhere}
-
-module _ (L : Layout) (B : List ℕ) (i : ℕ) where
-  pub atoms-none : (n : ℕ) → n ≡ 0 → atomsAt L B i n ≡ []
-  unfolding atomsAt
-  atoms-none n e = rw (e, atomsAt)
-
-  pub atoms-more : (n : ℕ) → 0 < n → atomsAt L B i n ≡ atomAt L B i ∷ atomsAt L B (i + size L) (n - 1)
-  unfolding atomsAt
-  atoms-more (suc n) h = rw suc-sub-one
-
-  pub sound-more : (n : ℕ) → 0 < n → T (areAtoms L B i n) → T (isAtom L B i) × T (areAtoms L B (i + size L) (n - 1))
-  unfolding areAtoms
-  sound-more (suc n) h t = (
-    fst-of (isAtom L B i) (areAtoms L B (i + size L) n) t,
-    rw suc-sub-one (snd-of (isAtom L B i) (areAtoms L B (i + size L) n) t),
-  )
 
 -- the next atom is tried on all candidates
 module _ (L : Layout) (F : List ℕ) (i left : ℕ) (B : Question) (p : Part) where
@@ -94,25 +77,6 @@ module _ (L : Layout) (F : List ℕ) (i left : ℕ) (f : Atom → Bool) where
   pub each-passes : 0 < left → f (atomAt L F i) ≡ true
       → all f (atomsAt L F i left) ≡ all f (atomsAt L F (i + size L) (left - 1))
   each-passes h e = rw (atoms-more L F i left h, e)
-
--- sound atoms, the first of them taken
-pub in-first : (L : Layout) (B : List ℕ) (i n : ℕ) → AtomsIn L B i n → 0 < n → AtomsIn L B i (n - 1 + 1)
-in-first L B i n a h = rw back a
-  where
-    back : n - 1 + 1 ≡ n
-    back = omega arith
-
-pub in-rest : (L : Layout) (B : List ℕ) (i n : ℕ) → AtomsIn L B i (n + 1)
-    → T (isAtom L B i) × AtomsIn L B (i + size L) n
-in-rest L B i n a =
-    let s = sound-more L B i (n + 1) (omega arith) (a .sound) in
-    (s .0, record { fits = omega (arith, a .fits); sound = subst (λ m. T (areAtoms L B (i + size L) m)) back (s .1) })
-  where
-    back : n + 1 - 1 ≡ n
-    back = omega arith
-
-pub sound-in : (L : Layout) (B : List ℕ) → Sound L B → AtomsIn L B 1 (getD B 0 0)
-sound-in L B s = record { fits = s .fits; sound = s .atoms }
 
 -- the first atom on one candidate, with no variable placed
 pub on-candidate : (L : Layout) (F S : List ℕ) (k n : ℕ) → 0 < getD F 0 0

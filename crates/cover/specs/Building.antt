@@ -6,10 +6,10 @@ use mathlib.Core.List.{List, [], _∷_, _++_}
 use Prim.Native.Nat.{ℕ, _<_}
 use lib.Dec.{eqb}
 use lib.ListN.{length, getD}
-use Rattle.cover.specs.Lists.{any}
-use Rattle.cover.specs.Term.{Term, var, con, Sub}
-use Rattle.cover.specs.Form.{index}
-use Rattle.cover.specs.Record.{termOf}
+use Rattle.covering.specs.Lists.{any}
+use Rattle.covering.specs.Term.{Term, var, con, Sub}
+use Rattle.covering.specs.Form.{index}
+use Rattle.covering.specs.Record.{termOf}
 
 module _ {A : Type 0} (eq : A → A → Bool) where
   -- whether an element equal to a is among those kept

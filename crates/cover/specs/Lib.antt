@@ -1,10 +1,9 @@
--- What a reader must believe of covering, in the order in which to read it.
-pub mod Lists
-pub mod Term
-pub mod Covers
-pub mod Search
-pub mod Form
-pub mod Record
-pub mod Desk
+-- What only the contracts of this crate's own functions, and of the code above, are said with. The search desk's
+-- contracts cite `covering` alone.
+
+-- how the search goes from candidate to candidate, and how it holds the map so far
+pub mod Candidates
 pub mod Held
+-- atoms and records in a buffer, and how a form is built
+pub mod Buffer
 pub mod Building

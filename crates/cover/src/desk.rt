@@ -2,8 +2,8 @@
 use crate::record::is_record;
 use crate::search::covers_sound;
 ghost use mathlib.Core.Path.{_≡_};
-ghost use Rattle.cover.specs.Record.{desk};
-ghost use Rattle.cover.specs.Desk.{coversAnswer, Keeps};
+ghost use Rattle.covering.specs.Record.{desk};
+ghost use Rattle.covering.specs.Desk.{coversAnswer, Keeps};
 
 // Whether the first record covers the second: 0 no, 1 yes, 2 the first is malformed, 3 the second is.
 pub fn covers(first: &[u8], second: &[u8]) -> u8

@@ -4,11 +4,11 @@ ghost use mathlib.Core.Path.{_≡_};
 ghost use mathlib.Core.List.{List, [], _∷_, _++_};
 ghost use Prim.Native.Nat.{ℕ, _+_, _≤_, _<_};
 ghost use lib.ListN.{getD};
-ghost use Rattle.cover.specs.Term.{on-term, on-atom, eqAtom, terms};
-ghost use Rattle.cover.specs.Form.{dedup, firsts, renumber, form};
-ghost use Rattle.cover.specs.Record.{desk, termOf, byteOf, atomAt, questionOf, atomBytes, heldIn};
-ghost use Rattle.cover.specs.Record.{Sound, AtomFits, AtomIn, Room};
-ghost use Rattle.cover.specs.Held.{AtomsIn};
+ghost use Rattle.covering.specs.Term.{on-term, on-atom, eqAtom, terms};
+ghost use Rattle.covering.specs.Form.{dedup, firsts, renumber, form};
+ghost use Rattle.covering.specs.Record.{desk, termOf, byteOf, atomAt, questionOf, atomBytes};
+ghost use Rattle.cover.specs.Buffer.{heldIn, AtomIn, Room, AtomsIn};
+ghost use Rattle.covering.specs.Record.{Sound, AtomFits};
 ghost use Rattle.cover.specs.Building.{has, added, seen, allSeen, newNumber, Numbered, subOf};
 
 // The new numbers given so far, 255 for none yet, and how many there are.

@@ -4,8 +4,8 @@ ghost use mathlib.Core.Path.{_≡_};
 ghost use Prim.Native.Nat.{_+_, _≤_};
 ghost use lib.Dec.{T};
 ghost use lib.ListN.{length};
-ghost use Rattle.cover.specs.Search.{placeTerm, placeTerms, placeAtom};
-ghost use Rattle.cover.specs.Record.{desk, termOf, argsAt, atomAt, usedFirst, isAtom};
+ghost use Rattle.covering.specs.Search.{placeTerm, placeTerms, placeAtom};
+ghost use Rattle.covering.specs.Record.{desk, termOf, argsAt, atomAt, usedFirst, isAtom};
 ghost use Rattle.cover.specs.Held.{partOf, said};
 
 // Sends the term t to the term u: a constant to itself, a variable where it went before or, the first time, to u.

@@ -2,7 +2,7 @@
 ghost use mathlib.Core.Path.{_≡_};
 ghost use Prim.Native.Nat.{_+_, _*_, _-_, _≤_};
 ghost use lib.ListN.{length};
-ghost use Rattle.cover.specs.Record.{desk, isTerm, unused, usedFirst, isAtom, areAtoms, isRecord};
+ghost use Rattle.covering.specs.Record.{desk, isTerm, unused, usedFirst, isAtom, areAtoms, isRecord};
 
 // Whether a byte is a term: a variable, 0 to 63, or a constant, 128 to 254.
 fn is_term(b: u8) -> bool

@@ -6,10 +6,12 @@ ghost use mathlib.Core.Path.{_≡_};
 ghost use Prim.Native.Nat.{_+_, _*_, _≤_, _<_};
 ghost use lib.Dec.{T};
 ghost use lib.ListN.{length, getD};
-ghost use Rattle.cover.specs.Lists.{all};
-ghost use Rattle.cover.specs.Search.{findMap, tried, covers, coversOn};
-ghost use Rattle.cover.specs.Record.{desk, isAtom, atomAt, atomsAt, questionOf, Sound};
-ghost use Rattle.cover.specs.Held.{partOf, said, AtomsIn, hasCandidate};
+ghost use Rattle.covering.specs.Lists.{all};
+ghost use Rattle.covering.specs.Search.{findMap, covers};
+ghost use Rattle.cover.specs.Candidates.{tried, coversOn, hasCandidate};
+ghost use Rattle.covering.specs.Record.{desk, isAtom, atomAt, atomsAt, questionOf, Sound};
+ghost use Rattle.cover.specs.Held.{partOf, said};
+ghost use Rattle.cover.specs.Buffer.{AtomsIn};
 
 // Whether the atom of first at i can be placed on one of the w atoms of second, as the map is now.
 fn has_candidate(first: &[u8], second: &[u8], i: usize, w: usize, map: [u8; 64]) -> bool

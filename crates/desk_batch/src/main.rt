@@ -3,7 +3,7 @@
 // `none`) and a line with a single full stop. It ends at a pair that is not all there, or at a record that is longer
 // than the buffer.
 ghost use mathlib.Core.Path.{_≡_};
-ghost use Prim.Native.Nat.{_≤_, _<_};
+ghost use Prim.Native.Nat.{_<_};
 ghost use lib.ListN.{length};
 ghost use Rattle.desk_batch.specs.Got.{Within};
 use libc::STDIN_FILENO;

@@ -8,8 +8,8 @@ use Prim.Native.Nat.{_≤_, _<_}
 use native.Mathlib.Omega.{arith}
 use lib.Dec.{T, ltb, ltb→lt, nltb→le}
 use lib.ListN.{length}
-use Rattle.cover.specs.Term.{Question}
-use Rattle.cover.proofs.Lists.{decide, clash, cond-yes, cond-no}
+use Rattle.covering.specs.Term.{Question}
+use Rattle.covering.proofs.Tests.{decide, clash, cond-yes, cond-no}
 use Rattle.exploration.specs.Run.{Test, Limits, State, too-long, no-room, Admission, dropped, admitted, stopped}
 use Rattle.exploration.specs.Run.{passed, failed, onAdmission, covered, without, appended, admit, through}
 use Rattle.exploration.specs.Steps.{New, Admitted}

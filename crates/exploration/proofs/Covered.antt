@@ -11,10 +11,11 @@ use Prim.Native.Nat.{ℕ, _≤_}
 use native.Mathlib.Omega.{arith}
 use lib.Dec.{T}
 use lib.ListN.{length, length-append}
-use Rattle.cover.specs.Lists.{_∈_, keep}
-use Rattle.cover.specs.Term.{Question}
-use Rattle.cover.specs.Form.{form}
-use Rattle.cover.proofs.Lists.{decide, clash, any-in, any-out, keep-out}
+use Rattle.covering.specs.Lists.{_∈_, keep}
+use Rattle.covering.specs.Term.{Question}
+use Rattle.covering.specs.Form.{form}
+use Rattle.covering.proofs.Lists.{any-in, any-out, keep-out}
+use Rattle.covering.proofs.Tests.{decide, clash}
 use Rattle.exploration.specs.Run.{Test, Limits, State, oldest, takenUp, covered, without}
 use Rattle.exploration.specs.Run.{appended}
 use Rattle.exploration.specs.Steps.{Position, between, within, Admitted, Reaches}

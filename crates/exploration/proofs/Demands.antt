@@ -7,18 +7,18 @@ use mathlib.Core.Logic.{_↔_}
 use mathlib.Core.List.{List, map}
 use Prim.Native.Nat.{ℕ, _≤_}
 use lib.ListN.{length, take, drop}
-use Rattle.cover.specs.Lists.{_∈_}
-use Rattle.cover.specs.Term.{Question}
-use Rattle.cover.specs.Covers.{Covers}
-use Rattle.cover.specs.Search.{covers}
-use Rattle.cover.specs.Form.{form}
-use Rattle.book.specs.Rule.{Rule}
-use Rattle.book.specs.Book.{bookOf}
-use Rattle.book.specs.Verdict.{Sound}
-use Rattle.unify.specs.Step.{listed, rewritings}
-use Rattle.unify.specs.Published.{Publishes}
-use Rattle.unify.proofs.Listed.{rewritings-listed}
-use Rattle.unify.proofs.Exactly.{exactly}
+use Rattle.covering.specs.Lists.{_∈_}
+use Rattle.covering.specs.Term.{Question}
+use Rattle.covering.specs.Covers.{Covers}
+use Rattle.covering.specs.Search.{covers}
+use Rattle.covering.specs.Form.{form}
+use Rattle.covering.specs.Rule.{Rule}
+use Rattle.reading.specs.Book.{bookOf}
+use Rattle.reading.specs.Verdict.{Sound}
+use Rattle.unification.specs.Step.{listed, rewritings}
+use Rattle.unification.specs.Published.{Publishes}
+use Rattle.unification.proofs.Listed.{rewritings-listed}
+use Rattle.unification.proofs.Exactly.{exactly}
 use Rattle.exploration.specs.Run.{limits, State, complete, apart, allRewritings}
 use Rattle.exploration.specs.Steps.{within, Reaches}
 use Rattle.exploration.specs.Union.{outputSize, unionBytes, membersOf, exploredOf}

@@ -6,15 +6,15 @@ use mathlib.Core.Path.{refl, sym, subst}
 use mathlib.Core.Logic.{_⊎_, inl, inr, _↔_}
 use mathlib.Core.List.{List}
 use Prim.Native.Nat.{ℕ}
-use Rattle.cover.specs.Lists.{_∈_}
-use Rattle.cover.specs.Term.{Question}
-use Rattle.cover.specs.Covers.{Covers}
-use Rattle.cover.proofs.Preorder.{covers-trans}
-use Rattle.cover.proofs.Form.{form-equivalent}
-use Rattle.book.specs.Rule.{Rule}
-use Rattle.unify.specs.Step.{Below, rewritings}
-use Rattle.unify.proofs.Complete.{Held, step-complete}
-use Rattle.unify.proofs.Sound.{step-sound}
+use Rattle.covering.specs.Lists.{_∈_}
+use Rattle.covering.specs.Term.{Question}
+use Rattle.covering.specs.Covers.{Covers}
+use Rattle.covering.proofs.Preorder.{covers-trans}
+use Rattle.covering.proofs.Form.{form-equivalent}
+use Rattle.covering.specs.Rule.{Rule}
+use Rattle.unification.specs.Step.{Below, rewritings}
+use Rattle.unification.proofs.Complete.{Held, step-complete}
+use Rattle.unification.proofs.Sound.{step-sound}
 use Rattle.exploration.specs.Chain.{Holds, SomeHolds, Chain, here, apply, Derives, Reached, first, next}
 
 module _ (k : ℕ) (rules : List Rule) (Q : Question) where

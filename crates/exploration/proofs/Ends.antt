@@ -10,8 +10,8 @@ use mathlib.Core.Option.{Option, none, some}
 use Prim.Native.Nat.{ℕ, zero, suc, _+_, _-_}
 use native.Mathlib.Omega.{arith}
 use lib.Dec.{T}
-use Rattle.cover.specs.Term.{Question}
-use Rattle.cover.proofs.Lists.{decide, T→true, T→false}
+use Rattle.covering.specs.Term.{Question}
+use Rattle.covering.proofs.Tests.{decide, T→true, T→false}
 use Rattle.exploration.specs.Run.{Test, Limits, State, Why, none-left, Admission, stopped, Pass, passed, failed}
 use Rattle.exploration.specs.Run.{Outcome, refused, onPass, oldest, takenUp, start, covered, appended}
 use Rattle.exploration.specs.Run.{admit, through, exploring, runBy}

@@ -1,14 +1,14 @@
 -- The starred examples hold, and the books of `specs/Examples` are answered as it says, by computation.
 use mathlib.Core.Path.{_≡_, refl}
 use mathlib.Core.List.{map}
-use Rattle.cover.specs.Search.{covers, firstMap, findMap}
-use Rattle.cover.specs.Form.{form}
-use Rattle.cover.specs.Record.{termOf, argsAt, atomAt, atomsAt, atomBytes, recordBytes}
-use Rattle.book.specs.Word.{word}
-use Rattle.book.specs.Book.{ruleAt, rulesFrom, after, bookOf}
-use Rattle.book.specs.Verdict.{inTable, offsetsRight, wrongPlaces, ruleRight, wrongRule, wrongPlace, wrongInAtom}
-use Rattle.book.specs.Verdict.{wrongInAtoms, wrongInRules, wrongByte, contents, verdict}
-use Rattle.unify.specs.Step.{step, listed, rewritings}
+use Rattle.covering.specs.Search.{covers, firstMap, findMap}
+use Rattle.covering.specs.Form.{form}
+use Rattle.covering.specs.Record.{termOf, argsAt, atomAt, atomsAt, atomBytes, recordBytes}
+use Rattle.reading.specs.Word.{word}
+use Rattle.reading.specs.Book.{ruleAt, rulesFrom, after, bookOf}
+use Rattle.reading.specs.Verdict.{inTable, offsetsRight, wrongPlaces, ruleRight, wrongRule, wrongPlace, wrongInAtom}
+use Rattle.reading.specs.Verdict.{wrongInAtoms, wrongInRules, wrongByte, contents, verdict}
+use Rattle.unification.specs.Step.{step, listed, rewritings}
 use Rattle.exploration.specs.Run.{admit, through, exploring, runBy, run}
 use Rattle.exploration.specs.Union.{total, unionBytes}
 use Rattle.exploration.specs.Answer.{result, answerOf}

@@ -7,9 +7,9 @@ use Prim.Native.Nat.{ℕ, _≤_}
 use native.Mathlib.Omega.{arith}
 use lib.ListN.{length, take, drop, length-append, length-drop}
 use lib.Seq.{take-at, drop-at}
-use Rattle.cover.specs.Lists.{_∈_}
-use Rattle.cover.specs.Term.{Question}
-use Rattle.book.specs.Verdict.{Sound}
+use Rattle.covering.specs.Lists.{_∈_}
+use Rattle.covering.specs.Term.{Question}
+use Rattle.reading.specs.Verdict.{Sound}
 use Rattle.exploration.specs.Run.{complete}
 use Rattle.exploration.specs.Union.{outputSize, total, unionBytes, membersOf, exploredOf}
 use Rattle.exploration.specs.Answer.{Result, union, refusal, outcomeOf, result, answer, written, answerOf}

@@ -8,7 +8,7 @@ use Prim.Native.Nat.{ℕ, _≤_}
 use native.Mathlib.Omega.{arith}
 use lib.Dec.{T}
 use lib.ListN.{take}
-use Rattle.cover.specs.Term.{Question}
+use Rattle.covering.specs.Term.{Question}
 use Rattle.exploration.specs.Run.{Test, Limits, State, oldest, takenUp, start, covered, without, appended}
 use Rattle.exploration.specs.Steps.{Position, between, within, Admitted, Reaches, begins, takes-up, drops, appends}
 use Rattle.exploration.specs.Steps.{stops, finishes}

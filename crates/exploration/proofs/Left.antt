@@ -5,9 +5,9 @@ use mathlib.Core.List.{List}
 use Prim.Native.Nat.{ℕ, _≤_}
 use lib.Dec.{T}
 use lib.ListN.{length}
-use Rattle.cover.specs.Lists.{_∈_}
-use Rattle.cover.specs.Term.{Question}
-use Rattle.cover.specs.Form.{form}
+use Rattle.covering.specs.Lists.{_∈_}
+use Rattle.covering.specs.Term.{Question}
+use Rattle.covering.specs.Form.{form}
 use Rattle.exploration.specs.Run.{Test, Limits, complete, runBy}
 use Rattle.exploration.specs.Steps.{Ends, completes}
 use Rattle.exploration.specs.Chain.{Apart}

@@ -19,6 +19,7 @@ pub mod OfBook
 -- the union as bytes
 pub mod Written
 pub mod Members
+pub mod Standing
 -- refuses exactly; what follows from the contract
 pub mod Refused
 pub mod Returns

@@ -7,15 +7,15 @@ use native.Mathlib.Omega.{arith}
 use native.Mathlib.Nat.{sub-eq-zero-of-le}
 use lib.ListN.{length, getD, take, drop, length-append}
 use lib.Seq.{getD-drop, drop-drop}
-use Rattle.cover.specs.Term.{Question}
-use Rattle.cover.specs.Record.{desk, atomsAt, questionOf, recordBytes, Sound}
-use Rattle.cover.proofs.Padded.{desk-apart}
-use Rattle.cover.proofs.Lengths.{count-atoms, record-long}
-use Rattle.cover.proofs.Begun.{begun-long, begun-record}
-use Rattle.cover.proofs.Places.{question-at}
-use Rattle.cover.proofs.Copied.{atoms-copied}
-use Rattle.book.specs.Word.{byte}
-use Rattle.book.proofs.Steps.{one-more}
+use Rattle.covering.specs.Term.{Question}
+use Rattle.covering.specs.Record.{desk, atomsAt, questionOf, recordBytes, Sound}
+use Rattle.covering.proofs.RoundTrip.{desk-apart}
+use Rattle.covering.proofs.Lengths.{count-atoms, record-long}
+use Rattle.covering.proofs.Begun.{begun-long, begun-record}
+use Rattle.covering.proofs.Places.{question-at}
+use Rattle.covering.proofs.Copied.{atoms-copied}
+use Rattle.reading.specs.Word.{byte}
+use Rattle.covering.proofs.Tests.{one-more}
 use Rattle.exploration.specs.Union.{membersBytes, membersFrom, memberEnd}
 
 -- where the member after the one at hand stands

@@ -5,24 +5,24 @@ use mathlib.Core.List.{List}
 use Prim.Native.Nat.{ℕ, _≤_}
 use native.Mathlib.Omega.{arith}
 use lib.ListN.{length}
-use Rattle.cover.specs.Lists.{_∈_}
-use Rattle.cover.specs.Term.{Question}
-use Rattle.cover.specs.Covers.{Covers}
-use Rattle.cover.specs.Search.{covers}
-use Rattle.cover.specs.Form.{form}
-use Rattle.cover.specs.Record.{desk, Fits}
-use Rattle.cover.proofs.Preorder.{covers-refl, covers-trans}
-use Rattle.cover.proofs.Decides.{covers-decides}
-use Rattle.cover.proofs.Form.{form-equivalent}
-use Rattle.cover.proofs.Same.{form-form}
-use Rattle.cover.proofs.Wider.{Wider, fits-wider}
-use Rattle.book.specs.Rule.{Rule}
-use Rattle.book.specs.Book.{bookOf, layoutOf}
-use Rattle.book.specs.Verdict.{Sound}
-use Rattle.book.proofs.Sound.{own-room, sound-header}
-use Rattle.book.proofs.Fits.{body-some, body-few, body-fits, head-fits, question-some, question-few, question-fits}
-use Rattle.unify.specs.Step.{Below, rewritings}
-use Rattle.unify.proofs.Collected.{gather-in, gather-out}
+use Rattle.covering.specs.Lists.{_∈_}
+use Rattle.covering.specs.Term.{Question}
+use Rattle.covering.specs.Covers.{Covers}
+use Rattle.covering.specs.Search.{covers}
+use Rattle.covering.specs.Form.{form}
+use Rattle.covering.specs.Record.{desk, Fits}
+use Rattle.covering.proofs.Preorder.{covers-refl, covers-trans}
+use Rattle.covering.proofs.Decides.{covers-decides}
+use Rattle.covering.proofs.Form.{form-equivalent}
+use Rattle.covering.proofs.Same.{form-form}
+use Rattle.covering.proofs.Wider.{Wider, fits-wider}
+use Rattle.covering.specs.Rule.{Rule}
+use Rattle.reading.specs.Book.{bookOf, layoutOf}
+use Rattle.reading.specs.Verdict.{Sound}
+use Rattle.reading.proofs.Sound.{own-room, sound-header}
+use Rattle.reading.proofs.Fits.{body-some, body-few, body-fits, head-fits, question-some, question-few, question-fits}
+use Rattle.unification.specs.Step.{Below, rewritings}
+use Rattle.unification.proofs.Collected.{gather-in, gather-out}
 use Rattle.exploration.specs.Run.{limits, State, complete, start, apart, allRewritings, exploring, runBy, run}
 use Rattle.exploration.specs.Steps.{within, Reaches}
 use Rattle.exploration.specs.Chain.{SomeHolds, Derives, Reached, first, next}

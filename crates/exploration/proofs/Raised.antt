@@ -3,9 +3,9 @@ use mathlib.Core.Path.{_≡_, subst}
 use mathlib.Core.List.{List}
 use Prim.Native.Nat.{ℕ, _≤_}
 use native.Mathlib.Omega.{arith}
-use Rattle.cover.specs.Term.{Question}
-use Rattle.cover.specs.Search.{covers}
-use Rattle.book.specs.Rule.{Rule}
+use Rattle.covering.specs.Term.{Question}
+use Rattle.covering.specs.Search.{covers}
+use Rattle.covering.specs.Rule.{Rule}
 use Rattle.exploration.specs.Run.{Test, Limits, limits, complete, allRewritings, runBy, run}
 use Rattle.exploration.specs.Steps.{Position, Reaches, begins, takes-up, drops, appends, stops, finishes}
 use Rattle.exploration.specs.Steps.{Ends, completes}

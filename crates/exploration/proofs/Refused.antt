@@ -9,14 +9,14 @@ use Prim.Native.Nat.{ℕ, _≤_, _<_}
 use native.Mathlib.Omega.{arith}
 use lib.Dec.{T, eqb, ltb, ltb→lt, nltb→le, eqb→eq}
 use borrow.Author.Tests.{eq-eqb}
-use Rattle.cover.specs.Term.{Question}
-use Rattle.cover.specs.Search.{covers}
-use Rattle.cover.proofs.Lists.{decide, clash, cond-yes, cond-no}
-use Rattle.book.specs.Book.{bookOf}
-use Rattle.book.specs.Refusals.{Applies as OfBook}
-use Rattle.book.specs.Verdict.{IsVerdict, sound, refused as refused-book, verdict, Sound}
-use Rattle.book.proofs.Exact.{verdict-exact, number-from}
-use Rattle.book.proofs.Sound.{sound-none}
+use Rattle.covering.specs.Term.{Question}
+use Rattle.covering.specs.Search.{covers}
+use Rattle.covering.proofs.Tests.{decide, clash, cond-yes, cond-no}
+use Rattle.reading.specs.Book.{bookOf}
+use Rattle.reading.specs.Refusals.{Applies as OfBook}
+use Rattle.reading.specs.Verdict.{IsVerdict, sound, refused as refused-book, verdict, Sound}
+use Rattle.reading.proofs.Exact.{verdict-exact, number-from}
+use Rattle.reading.proofs.Sound.{sound-none}
 use Rattle.exploration.specs.Run.{limits, Why, too-long, no-room, none-left, number, Outcome, complete, refused}
 use Rattle.exploration.specs.Run.{allRewritings}
 use Rattle.exploration.specs.Union.{outputSize}

@@ -7,8 +7,8 @@ use Prim.Native.Nat.{ℕ, _≤_, _<_}
 use lib.Dec.{eqb, ltb}
 use borrow.Author.Tests.{le-ltb, eq-eqb, ne-eqb, lt-ltb}
 use lib.ListN.{length, drop}
-use Rattle.cover.specs.Term.{Question}
-use Rattle.book.specs.Verdict.{verdict, Sound}
+use Rattle.covering.specs.Term.{Question}
+use Rattle.reading.specs.Verdict.{verdict, Sound}
 use Rattle.exploration.specs.Run.{Why, number, complete, refused}
 use Rattle.exploration.specs.Union.{outputSize, total, unionBytes}
 use Rattle.exploration.specs.Answer.{Result, union, refusal, resultOf, outcomeOf, result, answer, written}

@@ -8,20 +8,20 @@ use mathlib.Core.List.{_++_, List·Memᴰ·append-cases, Memᴰ·append-right, M
 use Prim.Native.Nat.{ℕ, _+_, _*_, _≤_, _<_}
 use native.Mathlib.Omega.{arith}
 use lib.ListN.{length, length-map}
-use Rattle.cover.specs.Lists.{_∈_}
-use Rattle.cover.specs.Term.{Term, var, con, Atom, Question, Sub, on-term, on-atom, terms}
-use Rattle.cover.specs.Form.{dedup, numbering, form}
-use Rattle.cover.specs.Record.{Layout, TermFits, AtomFits, Fits}
-use Rattle.cover.proofs.Lists.{in-some, first-in}
-use Rattle.cover.proofs.Terms.{var≢con, con-inj, terms-in, terms-out}
-use Rattle.cover.proofs.Form.{form-equivalent}
-use Rattle.cover.proofs.Same.{form-form}
-use Rattle.book.specs.Rule.{Rule}
-use Rattle.unify.specs.Choice.{left}
-use Rattle.unify.specs.Step.{up, move, Below, rewriting, rewritings}
-use Rattle.unify.proofs.Listed.{Made, rewritings-out}
-use Rattle.unify.proofs.Sizes.{form-length, form-atom, in-form-below, listed-form, listed-length, listed-shape}
-use Rattle.unify.proofs.Sizes.{listed-constant}
+use Rattle.covering.specs.Lists.{_∈_}
+use Rattle.covering.specs.Term.{Term, var, con, Atom, Question, Sub, on-term, on-atom, terms}
+use Rattle.covering.specs.Form.{dedup, numbering, form}
+use Rattle.covering.specs.Record.{Layout, TermFits, AtomFits, Fits}
+use Rattle.covering.proofs.Lists.{in-some, first-in}
+use Rattle.covering.proofs.Terms.{var≢con, con-inj, terms-in, terms-out}
+use Rattle.covering.proofs.Form.{form-equivalent}
+use Rattle.covering.proofs.Same.{form-form}
+use Rattle.covering.specs.Rule.{Rule}
+use Rattle.unification.specs.Choice.{left}
+use Rattle.unification.specs.Step.{up, move, Below, rewriting, rewritings}
+use Rattle.unification.proofs.Listed.{Made, rewritings-out}
+use Rattle.unification.proofs.Sizes.{form-length, form-atom, in-form-below, listed-form, listed-length, listed-shape}
+use Rattle.unification.proofs.Sizes.{listed-constant}
 
 -- the layout of questions of at most m atoms in form
 abbrev pub roomFor : Layout → ℕ → Layout

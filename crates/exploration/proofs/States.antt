@@ -1,6 +1,6 @@
 -- Laws of a run's states: who is a member after an admission, who is explored, who is taken up next. Assumes nothing.
 use mathlib.Core.Path.{_≡_, refl, sym, _∙_, ap, subst}
-use mathlib.Core.Bool.{Bool, true, false, cond, not}
+use mathlib.Core.Bool.{Bool, not}
 use mathlib.Core.Logic.{_⊎_, inl, inr}
 use mathlib.Core.List.{List, [], _∷_, _++_, append-assoc}
 use mathlib.Core.List.{List·Memᴰ·head, List·Memᴰ·tail, List·Memᴰ·append-cases, List·Memᴰ·eq-of-singleton}
@@ -10,21 +10,13 @@ use Prim.Native.Nat.{ℕ, zero, suc}
 use lib.Dec.{T}
 use lib.ListN.{length, take, drop, take-append-drop}
 use lib.Seq.{take-append-seam}
-use Rattle.cover.specs.Lists.{_∈_, keep, head}
-use Rattle.cover.specs.Term.{Question}
-use Rattle.cover.proofs.Lists.{none≢some, cond-yes, keep-in, keep-out}
+use Rattle.covering.specs.Lists.{_∈_, keep, head}
+use Rattle.covering.specs.Term.{Question}
+use Rattle.covering.proofs.Lists.{keep-in, keep-out, keep-append}
+use Rattle.covering.proofs.Tests.{none≢some, cond-yes}
 use Rattle.exploration.specs.Run.{Test, State, oldest, takenUp, without, appended}
 
 module _ {A : Type 0} where
-  pub keep-append : (p : A → Bool) (l k : List A) → keep p (l ++ k) ≡ keep p l ++ keep p k
-  keep-append p [] k = refl
-  keep-append p (x ∷ l) k = go (p x) (keep-append p l k)
-    where
-      go : (b : Bool) → keep p (l ++ k) ≡ keep p l ++ keep p k
-          → cond b (x ∷ keep p (l ++ k)) (keep p (l ++ k)) ≡ cond b (x ∷ keep p l) (keep p l) ++ keep p k
-      go true e = ap (λ (r : List A). x ∷ r) e
-      go false e = e
-
   -- of those in front the ones that are kept stay in front
   pub keep-front : (p : A → Bool) (n : ℕ) (l k : List A)
       → take (length (keep p (take n l))) (keep p l ++ k) ≡ keep p (take n l)

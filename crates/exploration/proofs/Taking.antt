@@ -4,11 +4,11 @@ use mathlib.Core.Path.{_≡_, sym, _∙_, ap}
 use mathlib.Core.List.{List, _∷_, _++_, map}
 use mathlib.Core.Option.{none, some}
 use Prim.Native.Nat.{ℕ, suc}
-use Rattle.cover.specs.Term.{Question}
-use Rattle.book.specs.Rule.{Rule}
-use Rattle.unify.specs.Step.{listed, from, next}
-use Rattle.unify.proofs.Listed.{rewritings-listed}
-use Rattle.unify.proofs.Following.{next-start, next-found, next-none}
+use Rattle.covering.specs.Term.{Question}
+use Rattle.covering.specs.Rule.{Rule}
+use Rattle.unification.specs.Step.{listed, from, next}
+use Rattle.unification.proofs.Listed.{rewritings-listed}
+use Rattle.unification.proofs.Following.{next-start, next-found, next-none}
 use Rattle.exploration.specs.Run.{apart, allRewritings}
 
 -- the rewritings of M from choice n of r on, then those of the rules after it

@@ -5,7 +5,7 @@ use mathlib.Core.Bool.{Bool, true, false, cond}
 use mathlib.Core.List.{List, _∷_}
 use mathlib.Core.Option.{Option, none, some}
 use Prim.Native.Nat.{ℕ, zero, suc}
-use Rattle.cover.specs.Term.{Question}
+use Rattle.covering.specs.Term.{Question}
 use Rattle.exploration.specs.Run.{Test, Limits, State, Why, none-left, Admission, dropped, admitted, stopped}
 use Rattle.exploration.specs.Run.{Pass, passed, failed}
 use Rattle.exploration.specs.Run.{Outcome, complete, refused, onAdmission, onPass, onOption, oldest, takenUp}

@@ -6,14 +6,14 @@ use native.Mathlib.Nat.{div-add-mod'}
 use native.Mathlib.Omega.{arith}
 use lib.ListN.{length, getD, drop, length-append}
 use lib.Seq.{getD-drop, drop-drop, drop-append-seam}
-use Rattle.cover.specs.Lists.{_∈_, gather}
-use Rattle.cover.specs.Term.{Question}
-use Rattle.cover.specs.Record.{desk, size, atomsAt, atomBytes, recordBytes, Fits}
-use Rattle.cover.proofs.Lengths.{record-is, record-long}
-use Rattle.cover.proofs.RoundTrip.{atoms-read}
-use Rattle.cover.proofs.Padded.{desk-apart}
-use Rattle.book.specs.Word.{byte, word}
-use Rattle.book.proofs.Reading.{word-is}
+use Rattle.covering.specs.Lists.{_∈_, gather}
+use Rattle.covering.specs.Term.{Question}
+use Rattle.covering.specs.Record.{desk, size, atomsAt, atomBytes, recordBytes, Fits}
+use Rattle.covering.proofs.Lengths.{record-is, record-long}
+use Rattle.covering.proofs.RoundTrip.{atoms-read}
+use Rattle.covering.proofs.RoundTrip.{desk-apart}
+use Rattle.reading.specs.Word.{byte, word}
+use Rattle.reading.proofs.Reading.{word-is}
 use Rattle.exploration.specs.Union.{wordBytes, membersBytes, firstAt, total, unionBytes, outputSize}
 use Rattle.exploration.specs.Union.{memberEnd, membersFrom, membersOf, exploredOf, totalOf}
 

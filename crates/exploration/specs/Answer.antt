@@ -6,9 +6,9 @@ use mathlib.Core.List.{List, _++_}
 use Prim.Native.Nat.{ℕ}
 use lib.Dec.{eqb, ltb}
 use lib.ListN.{length, drop}
-use Rattle.cover.specs.Term.{Question}
-use Rattle.book.specs.Book.{bookOf}
-use Rattle.book.specs.Verdict.{verdict}
+use Rattle.covering.specs.Term.{Question}
+use Rattle.reading.specs.Book.{bookOf}
+use Rattle.reading.specs.Verdict.{verdict}
 use Rattle.exploration.specs.Run.{Outcome, complete, refused, number, run}
 use Rattle.exploration.specs.Union.{outputSize, total, unionBytes}
 

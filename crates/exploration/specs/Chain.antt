@@ -4,13 +4,13 @@ use mathlib.Core.Path.{_≡_}
 use mathlib.Core.List.{List, [], _∷_}
 use Prim.Native.Nat.{ℕ, _<_}
 use lib.ListN.{length, getD}
-use Rattle.cover.specs.Lists.{_∈_}
-use Rattle.cover.specs.Term.{var, Atom, Question, terms}
-use Rattle.cover.specs.Covers.{Covers}
-use Rattle.cover.specs.Form.{form}
-use Rattle.book.specs.Rule.{Rule}
-use Rattle.unify.specs.Step.{Below, rewritings}
-use Rattle.unify.specs.Apply.{Applies}
+use Rattle.covering.specs.Lists.{_∈_}
+use Rattle.covering.specs.Term.{var, Atom, Question, terms}
+use Rattle.covering.specs.Covers.{Covers}
+use Rattle.covering.specs.Form.{form}
+use Rattle.covering.specs.Rule.{Rule}
+use Rattle.unification.specs.Step.{Below, rewritings}
+use Rattle.unification.specs.Apply.{Applies}
 
 -- facts of named things: a constant is a named thing, in the book or not, and there is no unknown among them
 abbrev pub Named : Question → Type 0

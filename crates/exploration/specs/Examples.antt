@@ -4,12 +4,12 @@ use mathlib.Core.Bool.{Bool, true, false}
 use mathlib.Core.List.{List, [], _∷_, _++_}
 use Prim.Native.Nat.{ℕ}
 use lib.ListN.{length}
-use Rattle.cover.specs.Lists.{gather}
-use Rattle.cover.specs.Term.{Term, var, con, Question}
-use Rattle.cover.specs.Search.{covers}
-use Rattle.book.specs.Rule.{Rule}
-use Rattle.unify.specs.Step.{rewritings}
-use Rattle.unify.specs.Examples.{at1, at2}
+use Rattle.covering.specs.Lists.{gather}
+use Rattle.covering.specs.Term.{Term, var, con, Question}
+use Rattle.covering.specs.Search.{covers}
+use Rattle.covering.specs.Rule.{Rule}
+use Rattle.unification.specs.Step.{rewritings}
+use Rattle.unification.specs.Examples.{at1, at2}
 use Rattle.exploration.specs.Run.{too-long, no-room, none-left, Outcome, complete, refused, apart, run}
 use Rattle.exploration.specs.Answer.{result, written, answerOf}
 use Rattle.exploration.specs.Union.{outputSize, wordBytes}

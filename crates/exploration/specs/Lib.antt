@@ -6,3 +6,5 @@ pub mod Answer
 pub mod Refusals
 pub mod Chain
 pub mod Examples
+-- What only contracts of the code above are said with; the demands do not need it.
+pub mod Standing

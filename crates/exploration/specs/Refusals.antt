@@ -5,10 +5,10 @@ use mathlib.Core.Path.{_≡_}
 use mathlib.Core.Logic.{_⊎_}
 use mathlib.Core.List.{List}
 use Prim.Native.Nat.{ℕ, _≤_, _<_}
-use Rattle.cover.specs.Term.{Question}
-use Rattle.cover.specs.Search.{covers}
-use Rattle.book.specs.Book.{bookOf}
-use Rattle.book.specs.Refusals.{Applies as OfBook}
+use Rattle.covering.specs.Term.{Question}
+use Rattle.covering.specs.Search.{covers}
+use Rattle.reading.specs.Book.{bookOf}
+use Rattle.reading.specs.Refusals.{Applies as OfBook}
 use Rattle.exploration.specs.Run.{limits, Why, number, Outcome, complete, refused, allRewritings}
 use Rattle.exploration.specs.Steps.{Ends}
 use Rattle.exploration.specs.Union.{outputSize}

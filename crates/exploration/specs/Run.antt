@@ -7,12 +7,12 @@ use mathlib.Core.Option.{Option, none, some}
 use Prim.Native.Nat.{ℕ, zero, suc}
 use lib.Dec.{ltb}
 use lib.ListN.{length, take, drop}
-use Rattle.cover.specs.Lists.{any, keep, head, gather}
-use Rattle.cover.specs.Term.{Question}
-use Rattle.cover.specs.Search.{covers}
-use Rattle.cover.specs.Form.{form}
-use Rattle.book.specs.Rule.{Rule}
-use Rattle.unify.specs.Step.{rewritings}
+use Rattle.covering.specs.Lists.{any, keep, head, gather}
+use Rattle.covering.specs.Term.{Question}
+use Rattle.covering.specs.Search.{covers}
+use Rattle.covering.specs.Form.{form}
+use Rattle.covering.specs.Rule.{Rule}
+use Rattle.unification.specs.Step.{rewritings}
 
 -- whether the first question covers the second
 abbrev pub Test : Type 0

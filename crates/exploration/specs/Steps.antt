@@ -7,7 +7,7 @@ use mathlib.Core.Option.{none, some}
 use Prim.Native.Nat.{ℕ, suc, _≤_, _<_}
 use lib.Dec.{T}
 use lib.ListN.{length}
-use Rattle.cover.specs.Term.{Question}
+use Rattle.covering.specs.Term.{Question}
 use Rattle.exploration.specs.Run.{Test, Limits, State, too-long, no-room, none-left, Outcome, complete, refused}
 use Rattle.exploration.specs.Run.{oldest, takenUp, start, covered, without, appended}
 

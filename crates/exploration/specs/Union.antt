@@ -2,10 +2,10 @@
 use mathlib.Core.List.{List, [], _∷_, _++_}
 use Prim.Native.Nat.{ℕ, zero, suc, _+_, _*_, _/_, _%_}
 use lib.ListN.{length}
-use Rattle.cover.specs.Lists.{gather}
-use Rattle.cover.specs.Term.{Question}
-use Rattle.cover.specs.Record.{desk, size, atomsAt, recordBytes}
-use Rattle.book.specs.Word.{byte, word}
+use Rattle.covering.specs.Lists.{gather}
+use Rattle.covering.specs.Term.{Question}
+use Rattle.covering.specs.Record.{desk, size, atomsAt, recordBytes}
+use Rattle.reading.specs.Word.{byte, word}
 
 -- "little-endian 16-bit words"
 abbrev pub wordBytes : ℕ → List ℕ

@@ -1,41 +1,38 @@
 -- Laws of taking the next rewriting (`specs/Taking`), rule by rule, and of finding the oldest unexplored member, member
 -- by member. Assumes nothing.
 use mathlib.Core.Path.{_≡_, refl, sym, _∙_, ap, subst}
-use mathlib.Core.Bool.{true, false}
+use mathlib.Core.Bool.{true, false, true≢false}
 use mathlib.Core.List.{List}
 use mathlib.Core.Option.{Option, none, some}
-use Prim.Native.Nat.{ℕ, zero, suc, _+_, _*_, _-_, _≤_, _<_}
+use Prim.Native.Nat.{ℕ, suc, _+_, _*_, _-_, _≤_, _<_}
 use native.Mathlib.Omega.{arith}
 use native.Mathlib.Nat.{sub-zero}
 use lib.ListN.{length, getD, drop}
 use lib.Seq.{drop-drop}
-use Rattle.cover.specs.Lists.{head}
-use Rattle.cover.specs.Term.{Question}
-use Rattle.cover.specs.Record.{desk, questionOf}
-use Rattle.book.specs.Rule.{Rule}
-use Rattle.book.specs.Word.{byte}
-use Rattle.book.specs.declared.Header.{Header}
+use Rattle.covering.specs.Lists.{head}
+use Rattle.covering.specs.Term.{Question}
+use Rattle.covering.specs.Record.{desk, questionOf}
+use Rattle.covering.specs.Rule.{Rule}
+use Rattle.reading.specs.Word.{byte}
+use Rattle.reading.specs.declared.Header.{Header}
 use Rattle.book.specs.declared.Parts.{Parts}
-use Rattle.book.specs.Header.{rules, HeaderRead}
+use Rattle.reading.specs.Header.{rules, HeaderRead}
 use Rattle.book.specs.Parts.{StartsAt, partsAt}
-use Rattle.book.specs.Verdict.{Sound as SoundBook}
-use Rattle.book.proofs.Sound.{sound-header, sound-rule, sound-question}
-use Rattle.book.specs.Book.{ruleEnd, ruleAt, rulesFrom, rulesStart, after, ruleStart, bookOf}
-use Rattle.book.proofs.Reading.{rules-none, rules-more}
+use Rattle.reading.specs.Verdict.{Sound as SoundBook}
+use Rattle.reading.proofs.Sound.{sound-header, sound-rule, sound-question}
+use Rattle.reading.specs.Book.{ruleAt, rulesFrom, ruleStart}
+use Rattle.reading.proofs.Reading.{rules-none, rules-more}
 use Rattle.unify.specs.declared.Found.{Found}
 use Rattle.unify.specs.Held.{ruleOf, answered, RuleIn, QuestionIn}
 use Rattle.unify.proofs.FromBook.{rule-in, rule-is, found-within}
-use Rattle.unify.specs.Choice.{mostChoices}
-use Rattle.unify.specs.Step.{next}
+use Rattle.unification.specs.Choice.{mostChoices}
+use Rattle.unification.specs.Step.{next}
 use Rattle.exploration.specs.Run.{apart}
 use Rattle.explore.specs.Taking.{Numbered, orLater, nextAmong, taken}
 use Rattle.exploration.specs.Union.{membersFrom, firstAt}
-use Rattle.explore.specs.Held.{Standing}
-use Rattle.explore.proofs.Finding.{Here, stands}
+use Rattle.exploration.specs.Standing.{Standing}
+use Rattle.exploration.proofs.Standing.{Here, stands}
 use Rattle.exploration.proofs.Members.{members-more}
-
-pub true≢false : true ≡ false → ⊥
-true≢false e = let z : _≡_ {A = ℕ} 0 1 = cc in absurd (omega arith)
 
 module _ (B : List ℕ) where
   module _ (M : Question) (k n : ℕ) where

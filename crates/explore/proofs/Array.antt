@@ -1,29 +1,29 @@
 -- Laws of a working array in order (`specs/Held`, `Working`): members that stand, split and read elsewhere; an array
 -- that holds a state is in order, and its state is that one; the removal of all that a rewriting covers. Assumes
 -- nothing.
-use mathlib.Core.Path.{_≡_, refl, sym, _∙_, ap, ap₂, subst}
-use mathlib.Core.List.{List, _∷_, _++_, append-assoc}
+use mathlib.Core.Path.{_≡_, sym, _∙_, ap, ap₂, subst}
+use mathlib.Core.List.{List, _++_, append-assoc}
 use mathlib.Core.Bool.{not}
-use Prim.Native.Nat.{ℕ, zero, suc, _+_, _*_, _-_, _≤_}
+use Prim.Native.Nat.{ℕ, zero, suc, _+_, _-_, _≤_}
 use native.Mathlib.Omega.{arith}
 use lib.ListN.{length, take, drop, length-append, take-append-drop}
 use lib.Seq.{drop-at, take-at, length-take-le}
-use Rattle.cover.specs.Lists.{_∈_}
-use Rattle.cover.specs.Term.{Question}
-use Rattle.cover.specs.Search.{covers}
-use Rattle.cover.specs.Record.{desk, Fits, Sound}
-use Rattle.cover.proofs.Fitting.{keep-few}
-use Rattle.cover.proofs.Lists.{keep-out}
+use Rattle.covering.specs.Lists.{_∈_}
+use Rattle.covering.specs.Term.{Question}
+use Rattle.covering.specs.Search.{covers}
+use Rattle.covering.specs.Record.{desk, Fits, Sound}
+use Rattle.covering.proofs.Lists.{keep-few, keep-append}
+use Rattle.covering.proofs.Lists.{keep-out}
 use Rattle.explore.specs.declared.Extent.{Extent}
 use Rattle.explore.specs.declared.Moved.{Moved}
 use Rattle.exploration.specs.Run.{State, without}
 use Rattle.exploration.specs.Union.{membersBytes, membersFrom, memberEnd, firstAt, outputSize}
-use Rattle.explore.specs.Held.{Held, Standing, stateOf, Working, Kept, rest}
+use Rattle.explore.specs.Held.{Held, stateOf, Working, Kept, rest}
+use Rattle.exploration.specs.Standing.{Standing}
 use Rattle.exploration.proofs.Written.{total-is, total-most, members-append}
 use Rattle.explore.proofs.Stand.{held-stands, held-members}
 use Rattle.exploration.proofs.Members.{members-count, ending, ending-none, ending-next, members-split}
 use Rattle.exploration.proofs.Members.{later, end-same, members-same}
-use Rattle.exploration.proofs.States.{keep-append}
 
 -- members that stand, split and read elsewhere
 module _ (W : List ℕ) where

@@ -1,23 +1,23 @@
 -- The rewritings yet to come of the member that is explored, as `next_rewriting` takes them (`specs/Taking`). Assumes
 -- nothing.
 use mathlib.Core.Path.{_≡_, refl, sym, _∙_, ap, ap₂, subst}
-use mathlib.Core.Bool.{true, false}
+use mathlib.Core.Bool.{true, false, true≢false}
 use mathlib.Core.List.{List, [], _∷_}
 use mathlib.Core.Option.{Option, none, some, Option·some-injective}
 use Prim.Native.Nat.{ℕ, suc, _+_, _-_, _≤_}
 use native.Mathlib.Omega.{arith}
 use lib.ListN.{drop}
 use lib.Seq.{drop-drop}
-use Rattle.cover.specs.Term.{Question}
-use Rattle.cover.specs.Record.{desk, heldIn}
-use Rattle.cover.proofs.Lists.{none≢some}
-use Rattle.book.specs.Rule.{Rule}
-use Rattle.unify.specs.Step.{next}
+use Rattle.covering.specs.Term.{Question}
+use Rattle.covering.specs.Record.{desk}
+use Rattle.cover.specs.Buffer.{heldIn}
+use Rattle.covering.proofs.Tests.{none≢some}
+use Rattle.covering.specs.Rule.{Rule}
+use Rattle.unification.specs.Step.{next}
 use Rattle.explore.specs.declared.Taken.{Taken}
 use Rattle.exploration.specs.Run.{apart, allRewritings}
 use Rattle.explore.specs.Taking.{Numbered, orLater, nextAmong, taken}
 use Rattle.exploration.proofs.Taking.{yetToCome, rule-begun, rewriting-found, rule-done}
-use Rattle.explore.proofs.Among.{true≢false}
 
 -- from choice n of the first of these rules on
 abbrev pub coming : Question → ℕ → List Rule → List Question

@@ -1,7 +1,6 @@
 -- Any two results that `run`'s contract allows are equal: the answer, and every byte of the output. Assumes nothing.
-use mathlib.Core.Path.{_≡_, sym, _∙_, ap}
+use mathlib.Core.Path.{_≡_}
 use denote.Ref.{now}
-use Rattle.exploration.specs.Answer.{Answers}
 use Rattle.exploration.proofs.Demands.{demand-1}
 use Rattle.explore.proofs.whole_run.run.Reads as run-reads
 

@@ -4,8 +4,8 @@ use mathlib.Core.Path.{_≡_, sym, _∙_, ap, ap₂, subst}
 use mathlib.Core.List.{List, _++_}
 use Prim.Native.Nat.{ℕ, _≤_}
 use lib.ListN.{length, take, drop}
-use Rattle.cover.specs.Term.{Question}
-use Rattle.book.specs.Verdict.{Sound}
+use Rattle.covering.specs.Term.{Question}
+use Rattle.reading.specs.Verdict.{Sound}
 use Rattle.exploration.specs.Union.{wordBytes, membersFrom, firstAt, outputSize, total, unionBytes}
 use Rattle.exploration.specs.Answer.{outcomeOf, Answers}
 use Rattle.exploration.proofs.Returns.{returns-refused, returns-union}

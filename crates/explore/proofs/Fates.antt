@@ -8,11 +8,11 @@ use native.Mathlib.Omega.{arith}
 use borrow.Author.Tests.{le-ltb, lt-ltb}
 use lib.Dec.{T, ltb}
 use lib.ListN.{length, take, drop, length-append}
-use Rattle.cover.specs.Lists.{_∈_}
-use Rattle.cover.specs.Term.{Question}
-use Rattle.cover.specs.Search.{covers}
-use Rattle.cover.specs.Record.{desk, recordBytes, Fits}
-use Rattle.cover.proofs.Lists.{true→T, false→T}
+use Rattle.covering.specs.Lists.{_∈_}
+use Rattle.covering.specs.Term.{Question}
+use Rattle.covering.specs.Search.{covers}
+use Rattle.covering.specs.Record.{desk, recordBytes, Fits}
+use Rattle.covering.proofs.Tests.{true→T, false→T}
 use Rattle.explore.specs.declared.Extent.{Extent}
 use Rattle.explore.specs.declared.Fate.the-variants.{Dropped, Appended, Refused}
 use Rattle.exploration.specs.Run.{State, limits, too-long, no-room, covered, without, appended, admitted}

@@ -1,5 +1,5 @@
 -- Laws of the search for a covering member (`specs/Held`): one member more, one candidate more. Assumes nothing.
-use mathlib.Core.Path.{_≡_, refl, sym, _∙_, ap, ap₂, subst}
+use mathlib.Core.Path.{_≡_, refl, sym, _∙_, ap, ap₂}
 use mathlib.Core.Bool.{Bool, true, false, cond, _||_}
 use mathlib.Core.List.{List, [], _∷_}
 use Prim.Native.Nat.{ℕ, suc, _+_, _*_, _-_, _≤_, _<_}
@@ -7,21 +7,20 @@ use native.Mathlib.Omega.{arith}
 use native.Mathlib.Nat.{sub-eq-zero-of-le}
 use borrow.Author.Tests.{lt-ltb}
 use lib.Dec.{ltb, leb·suc-suc}
-use lib.ListN.{length, getD, take, drop, length-drop}
-use lib.Seq.{take-all}
-use Rattle.cover.specs.Lists.{any}
-use Rattle.cover.specs.Term.{Atom, Question}
-use Rattle.cover.specs.Search.{covers, coversOn}
-use Rattle.cover.specs.Record.{desk, atomAt, atomsAt, questionOf, Sound}
-use Rattle.cover.proofs.Decides.{covers-any}
-use Rattle.cover.proofs.Places.{question-at}
-use Rattle.cover.proofs.Steps.{atoms-none, atoms-more}
-use Rattle.book.specs.Word.{byte}
-use Rattle.book.proofs.Steps.{one-more}
+use lib.ListN.{length, getD, drop}
+use Rattle.covering.specs.Lists.{any}
+use Rattle.covering.specs.Term.{Atom, Question}
+use Rattle.covering.specs.Search.{covers}
+use Rattle.cover.specs.Candidates.{coversOn}
+use Rattle.covering.specs.Record.{desk, atomAt, atomsAt, questionOf, Sound}
+use Rattle.cover.proofs.Ahead.{covers-any}
+use Rattle.covering.proofs.Places.{question-at}
+use Rattle.covering.proofs.Places.{atoms-none, atoms-more}
+use Rattle.reading.specs.Word.{byte}
 use Rattle.exploration.specs.Run.{Test, covered}
-use Rattle.exploration.specs.Union.{membersFrom, memberEnd}
-use Rattle.exploration.proofs.Members.{next, end-at, count-from, members-more, members-none}
-use Rattle.explore.specs.Held.{Standing, beforeCovering}
+use Rattle.exploration.specs.Union.{membersFrom}
+use Rattle.exploration.proofs.Members.{next, members-more, members-none}
+use Rattle.explore.specs.Held.{beforeCovering}
 
 -- one candidate more
 module _ (f : Atom → Bool) (B : List ℕ) (k w : ℕ) where
@@ -83,30 +82,6 @@ module _ (cov : Test) (P : Question) (W : List ℕ) (at i n : ℕ) where
       ≡ suc (beforeCovering cov P (membersFrom W (at + (1 + byte W at * 5)) (n - (i + 1))))
   unfolding others
   first-miss h e = first-next h ∙ ap others e
-
--- what is known of the member at a place where one stands
-pub record Here (W : List ℕ) (at n : ℕ) : Type 0 where
-  pub sound : Sound desk (drop at W)
-  pub most : byte W at ≤ 11
-  pub within : at + (1 + byte W at * 5) ≤ length W
-  pub rest : Standing W (at + (1 + byte W at * 5)) n
-
-pub stands : (W : List ℕ) (at i n : ℕ) → i < n → Standing W at (n - i) → Here W at (n - (i + 1))
-unfolding Standing
-stands W at i n h s =
-    let m : Sound desk (drop at W) × Standing W (memberEnd W at) (n - (i + 1)) =
-    subst (Standing W at) (one-more n i h) s in
-    let e = count-from W at in
-    record {
-      sound = m .0;
-      most = omega (arith, m .0 .most, e);
-      within = omega (arith, m .0 .fits, e, length-drop at W);
-      rest = subst (λ (k : ℕ). Standing W k (n - (i + 1))) (end-at W at) (m .1);
-    }
-
--- the part of the buffer from there on
-pub part-is : (W : List ℕ) (at : ℕ) → take (length W - at) (drop at W) ≡ drop at W
-part-is W at = take-all (length W - at) (drop at W) (omega (arith, length-drop at W))
 
 -- a member covers P exactly where the search ends before the last
 pub covering-found : (cov : Test) (P : Question) (U : List Question)

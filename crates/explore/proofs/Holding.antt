@@ -6,10 +6,10 @@ use Prim.Native.Nat.{ℕ, _+_, _≤_}
 use native.Mathlib.Omega.{arith}
 use lib.ListN.{length, take, drop, length-append, length-drop, take-append-drop}
 use lib.Seq.{take-at, drop-at, drop-append-le, length-take-le}
-use Rattle.cover.specs.Term.{Question}
-use Rattle.cover.specs.Record.{desk, recordBytes}
+use Rattle.covering.specs.Term.{Question}
+use Rattle.covering.specs.Record.{desk, recordBytes}
 use Rattle.exploration.specs.Run.{State}
-use Rattle.exploration.specs.Union.{membersBytes, firstAt, total, unionBytes, outputSize}
+use Rattle.exploration.specs.Union.{membersBytes, firstAt, unionBytes, outputSize}
 use Rattle.explore.specs.Held.{Held}
 use Rattle.exploration.proofs.Written.{total-is, members-last, headerBytes, union-is}
 

@@ -1,32 +1,11 @@
 -- Laws of a copy into a working array (`paste`). Assumes nothing.
-use mathlib.Core.Path.{_≡_, sym, _∙_, ap, subst}
+use mathlib.Core.Path.{_≡_, _∙_, ap}
 use mathlib.Core.List.{List, _++_, append-assoc}
-use Prim.Native.Nat.{ℕ, _+_, _-_, _/_, _%_, _≤_, _<_}
-use native.Mathlib.Omega.{arith}
+use Prim.Native.Nat.{ℕ, _+_, _-_, _/_, _%_, _≤_}
 use native.Mathlib.Numerals.{add-one}
-use lib.ListN.{length, getD, set, take, drop}
-use lib.Seq.{paste, paste-suc, drop-paste, getD-drop, drop-drop, sets-eq}
+use lib.ListN.{length, set, take, drop}
+use lib.Seq.{drop-drop, sets-eq}
 use Rattle.exploration.specs.Union.{wordBytes}
-
--- one byte more is copied
-pub paste-more : (d : List ℕ) (at : ℕ) (s : List ℕ) (j k : ℕ) → at + j ≡ k → k < length d → j < length s
-    → set (paste d at s j) k (getD s j 0) ≡ paste d at s (j + 1)
-paste-more d at s j k e hd hs =
-    subst (λ (n : ℕ). set (paste d at s j) n (getD s j 0) ≡ paste d at s (j + 1)) e
-    (paste-suc d at s j 0 (omega arith) hs ∙ ap (paste d at s) (sym (add-one j)))
-
--- the bytes after those copied are as they were
-pub paste-past : (d : List ℕ) (at : ℕ) (s : List ℕ) (n k : ℕ) → at ≤ length d → n ≤ length s → at + n ≤ k
-    → getD (paste d at s n) k 0 ≡ getD d k 0
-paste-past d at s n k hd hs h =
-    ap (λ (m : ℕ). getD (paste d at s n) m 0) e
-    ∙ sym (getD-drop (at + n) (paste d at s n) (k - (at + n)) 0)
-    ∙ ap (λ (l : List ℕ). getD l (k - (at + n)) 0) (drop-paste d at s n hd hs)
-    ∙ getD-drop (at + n) d (k - (at + n)) 0
-    ∙ ap (λ (m : ℕ). getD d m 0) (sym e)
-  where
-    e : k ≡ at + n + (k - (at + n))
-    e = omega arith
 
 -- two bytes stored one after the other are a word
 pub word-put : (W : List ℕ) (at n : ℕ) → at + 2 ≤ length W

@@ -1,19 +1,22 @@
 -- Records of 56 bytes: that of a question that fits, of a member and of a rewriting of a member. Assumes nothing.
-use mathlib.Core.Path.{_≡_, refl, subst}
+use mathlib.Core.Path.{_≡_}
 use mathlib.Core.List.{List}
 use Prim.Native.Nat.{ℕ}
 use native.Mathlib.Omega.{arith}
-use Rattle.cover.specs.Lists.{_∈_}
-use Rattle.cover.specs.Term.{Question}
-use Rattle.cover.specs.Record.{desk, questionOf, heldIn, Fits, Sound}
-use Rattle.cover.proofs.Fitting.{sound-fits}
-use Rattle.cover.proofs.Padded.{desk-apart, held-question, held-sound}
-use Rattle.cover.proofs.Wider.{Wider, fits-wider, held-written}
-use Rattle.book.specs.Book.{bookOf, layoutOf}
-use Rattle.book.specs.Verdict.{Sound as SoundBook}
-use Rattle.book.proofs.Sound.{sound-header}
+use Rattle.covering.specs.Lists.{_∈_}
+use Rattle.covering.specs.Term.{Question}
+use Rattle.covering.specs.Record.{desk, questionOf, Fits, Sound}
+use Rattle.cover.specs.Buffer.{heldIn}
+use Rattle.covering.proofs.Fitting.{sound-fits}
+use Rattle.cover.proofs.Padded.{held-question, held-sound}
+use Rattle.covering.proofs.RoundTrip.{desk-apart}
+use Rattle.covering.proofs.Wider.{fits-wider}
+use Rattle.reading.specs.Book.{bookOf, layoutOf}
+use Rattle.reading.specs.Verdict.{Sound as SoundBook}
+use Rattle.reading.proofs.Sound.{desk-room}
+use Rattle.reading.proofs.Fits.{question-record}
 use Rattle.unify.specs.Held.{inBook, QuestionIn}
-use Rattle.unify.proofs.Written.{book-desk}
+use Rattle.unify.proofs.FromBook.{held-in, own-wider}
 use Rattle.exploration.specs.Run.{allRewritings}
 use Rattle.exploration.proofs.OfBook.{desk-fits, rewriting-desk}
 
@@ -28,6 +31,10 @@ record-sound A f = held-sound desk 56 A desk-apart f (omega (arith, f .most))
 pub record-question : (A : Question) → Fits desk A → questionOf desk (heldIn desk 56 A) ≡ A
 record-question A f = held-question desk 56 A desk-apart (f .each)
 
+-- the book's question fits
+pub question-desk : (B : List ℕ) → SoundBook B → Fits desk (bookOf B .question)
+question-desk B s = question-record B desk (desk-room B s) s (omega arith)
+
 module _ (B : List ℕ) (s : SoundBook B) (M : Question) (m : Fits (layoutOf B) M) where
   -- the record of a member can be handed to covering and to the lister
   pub member-question : questionOf desk (heldIn desk 56 M) ≡ M
@@ -36,30 +43,8 @@ module _ (B : List ℕ) (s : SoundBook B) (M : Question) (m : Fits (layoutOf B) 
   pub member-sound : Sound desk (heldIn desk 56 M)
   member-sound = record-sound M (desk-fits B s m)
 
-  listed-fits : Fits inBook M
-  listed-fits = fits-wider (layoutOf B) inBook book-wider (omega arith) m
-    where
-      book-wider : Wider (layoutOf B) inBook
-      book-wider =
-          record {
-            relations = sound-header B s .few-relations;
-            places = refl;
-            variables = omega arith;
-            constants = sound-header B s .few-constants;
-          }
-
-  listed-sound : Sound inBook (heldIn desk 56 M)
-  listed-sound =
-      subst (Sound inBook) (held-written inBook desk book-desk 56 M)
-      (held-sound inBook 56 M (record { variables = omega arith; constants = omega arith }) listed-fits
-      (omega (arith, listed-fits .most)))
-
   pub member-in : QuestionIn (heldIn desk 56 M)
-  member-in =
-      record {
-        atoms = record { fits = listed-sound .fits; sound = listed-sound .atoms };
-        few = listed-sound .most;
-      }
+  member-in = held-in M (fits-wider (layoutOf B) inBook (own-wider B s) (omega arith) m)
 
   -- and that of a rewriting of it to covering
   module _ (P : Question) (x : P ∈ allRewritings (bookOf B .rules) M) where

@@ -1,21 +1,23 @@
 -- Laws of the removal (`specs/Held`): members passed one after the other, kept or not. Assumes nothing.
-use mathlib.Core.Path.{_≡_, refl, sym, _∙_, ap, ap₂, subst}
+use mathlib.Core.Path.{_≡_, refl, sym, _∙_, ap, subst}
 use mathlib.Core.Bool.{Bool, true, false, cond, not}
-use mathlib.Core.List.{List, [], _∷_, _++_, append-assoc, append-nil}
+use mathlib.Core.List.{List, _∷_, _++_, append-assoc, append-nil}
 use Prim.Native.Nat.{ℕ, _+_, _*_, _-_, _≤_, _<_}
 use native.Mathlib.Omega.{arith}
 use native.Mathlib.Nat.{sub-zero}
 use lib.ListN.{length, getD, take, drop, length-append, length-drop}
 use lib.Seq.{drop-drop, drop-at, take-at, length-take-le}
-use Rattle.cover.specs.Term.{Question}
-use Rattle.cover.specs.Search.{covers}
-use Rattle.cover.specs.Record.{desk, questionOf, recordBytes, Sound}
-use Rattle.book.specs.Word.{byte}
+use Rattle.covering.specs.Term.{Question}
+use Rattle.covering.specs.Search.{covers}
+use Rattle.covering.specs.Record.{desk, questionOf, recordBytes, Sound}
+use Rattle.reading.specs.Word.{byte}
 use Rattle.exploration.specs.Run.{without}
 use Rattle.exploration.specs.Union.{membersBytes, membersFrom}
 use Rattle.exploration.proofs.Members.{next, count-from, member-width, member-bytes, members-more, members-none}
-use Rattle.explore.specs.Held.{Standing, Kept}
-use Rattle.explore.proofs.Finding.{Here, stands, part-is}
+use Rattle.explore.specs.Held.{Kept}
+use Rattle.exploration.specs.Standing.{Standing}
+use Rattle.exploration.proofs.Standing.{Here, stands}
+use Rattle.covering.proofs.Slices.{part-is}
 
 -- The removal midway: i of the n members from `from` on are passed, the next one stands at `at`, the next kept one
 -- goes to `end`, and `kept` were kept. What was kept and what is yet to be judged make up the whole.

@@ -5,17 +5,18 @@ use mathlib.Core.Option.{none, some}
 use Prim.Native.Nat.{ℕ, zero, suc, _+_, _*_, _-_, _≤_, _<_}
 use native.Mathlib.Omega.{arith}
 use lib.ListN.{length, getD, take, drop}
-use Rattle.cover.specs.Lists.{_∈_, head}
-use Rattle.cover.specs.Term.{Question}
-use Rattle.cover.specs.Search.{covers}
-use Rattle.cover.specs.Form.{form}
-use Rattle.cover.specs.Record.{desk, questionOf, heldIn, recordBytes, Fits, Sound}
-use Rattle.cover.proofs.Lengths.{question-count, record-long}
-use Rattle.book.specs.declared.Header.{Header}
-use Rattle.book.specs.Header.{HeaderRead}
-use Rattle.book.specs.Book.{bookOf, layoutOf}
-use Rattle.book.specs.Verdict.{Sound as SoundBook}
-use Rattle.book.proofs.Reading.{book-allowed}
+use Rattle.covering.specs.Lists.{_∈_, head}
+use Rattle.covering.specs.Term.{Question}
+use Rattle.covering.specs.Search.{covers}
+use Rattle.covering.specs.Form.{form}
+use Rattle.covering.specs.Record.{desk, questionOf, recordBytes, Fits, Sound}
+use Rattle.cover.specs.Buffer.{heldIn}
+use Rattle.covering.proofs.Lengths.{question-count, record-long}
+use Rattle.reading.specs.declared.Header.{Header}
+use Rattle.reading.specs.Header.{HeaderRead}
+use Rattle.reading.specs.Book.{bookOf, layoutOf}
+use Rattle.reading.specs.Verdict.{Sound as SoundBook}
+use Rattle.reading.proofs.Reading.{book-allowed}
 use Rattle.explore.specs.declared.Extent.{Extent}
 use Rattle.explore.specs.declared.Explored.{Explored}
 use Rattle.explore.specs.declared.Explored.the-variants.{Passed, Refused}

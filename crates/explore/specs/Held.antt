@@ -4,14 +4,15 @@ use mathlib.Core.Path.{_≡_}
 use mathlib.Core.Bool.{cond}
 use mathlib.Core.List.{List, [], _∷_, _++_}
 use mathlib.Core.Option.{some}
-use Prim.Native.Nat.{ℕ, zero, suc, _+_, _≤_}
+use Prim.Native.Nat.{ℕ, suc, _+_, _≤_}
 use lib.ListN.{length, take, drop}
-use Rattle.cover.specs.Lists.{_∈_}
-use Rattle.cover.specs.Term.{Question}
-use Rattle.cover.specs.Search.{covers}
-use Rattle.cover.specs.Record.{desk, questionOf, heldIn, Fits, Sound}
-use Rattle.book.specs.Rule.{Rule}
-use Rattle.book.specs.Book.{layoutOf}
+use Rattle.covering.specs.Lists.{_∈_}
+use Rattle.covering.specs.Term.{Question}
+use Rattle.covering.specs.Search.{covers}
+use Rattle.covering.specs.Record.{desk, questionOf, Fits}
+use Rattle.cover.specs.Buffer.{heldIn}
+use Rattle.covering.specs.Rule.{Rule}
+use Rattle.reading.specs.Book.{layoutOf}
 use Rattle.explore.specs.declared.Extent.{Extent}
 use Rattle.explore.specs.declared.Moved.{Moved}
 use Rattle.explore.specs.declared.Fate.{Fate}
@@ -23,7 +24,7 @@ use Rattle.explore.specs.declared.Ran.the-variants.{Complete, Refused as
 use Rattle.exploration.specs.Run.{State, Test, limits, Why, number, dropped, admitted, stopped, passed, failed}
 use Rattle.exploration.specs.Run.{Outcome, complete, refused}
 use Rattle.exploration.specs.Run.{oldest, without, admit, through, allRewritings}
-use Rattle.exploration.specs.Union.{membersBytes, membersFrom, firstAt, total, outputSize, memberEnd}
+use Rattle.exploration.specs.Union.{membersBytes, membersFrom, firstAt, total, outputSize}
 
 -- "One working array of 2,632 bytes": the members' records stand one after the other from 8 on and end at `len`;
 -- `count` members, the first `front` of them explored
@@ -33,11 +34,6 @@ pub record Held (W : List ℕ) (len count front : ℕ) (s : State) : Type 0 wher
   pub ends : len ≡ total (s .members)
   pub members : count ≡ length (s .members)
   pub explored : front ≡ s .explored
-
--- n members stand from i on, one after the other, each as a sound record
-unfoldable pub Standing : List ℕ → ℕ → ℕ → Type 0
-Standing W i zero = Unit {0}
-Standing W i (suc n) = Sound desk (drop i W) × Standing W (memberEnd W i) n
 
 -- the state that is read from a working array filled so far
 abbrev pub stateOf : List ℕ → Extent → State

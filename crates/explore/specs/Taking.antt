@@ -4,10 +4,11 @@ use mathlib.Core.List.{List, [], _∷_}
 use mathlib.Core.Option.{Option, none, some}
 use Prim.Native.Nat.{ℕ, suc}
 use lib.ListN.{replicate}
-use Rattle.cover.specs.Term.{Question}
-use Rattle.cover.specs.Record.{desk, heldIn}
-use Rattle.book.specs.Rule.{Rule}
-use Rattle.unify.specs.Step.{next}
+use Rattle.covering.specs.Term.{Question}
+use Rattle.covering.specs.Record.{desk}
+use Rattle.cover.specs.Buffer.{heldIn}
+use Rattle.covering.specs.Rule.{Rule}
+use Rattle.unification.specs.Step.{next}
 use Rattle.explore.specs.declared.Taken.{Taken}
 use Rattle.exploration.specs.Run.{apart}
 

@@ -1,10 +1,10 @@
 // Admitting one rewriting.
-ghost use Rattle.cover.specs.Record.{desk, questionOf, Sound};
-ghost use Rattle.explore.specs.Held.{Working, FateIs, stateOf};
+ghost use Rattle.covering.specs.Record.{desk, questionOf, Sound};
+ghost use Rattle.explore.specs.Held.{Working, FateIs};
 use super::Extent;
 use super::Fate;
-use super::covering::member_covering;
 use super::removing::remove_covered;
+use super::searching::member_covering;
 use super::working::append;
 
 // "More than 8 atoms", "a 65th member".

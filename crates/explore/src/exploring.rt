@@ -1,9 +1,9 @@
 // Exploring one member.
 ghost use mathlib.Core.Path.{_≡_};
-ghost use Rattle.cover.specs.Record.{desk, questionOf};
-ghost use Rattle.book.specs.Header.{rules as rulesOf};
-ghost use Rattle.book.specs.Book.{bookOf};
-ghost use Rattle.book.specs.Verdict.{Sound as SoundBook};
+ghost use Rattle.covering.specs.Record.{desk, questionOf};
+ghost use Rattle.reading.specs.Header.{rules as rulesOf};
+ghost use Rattle.reading.specs.Book.{bookOf};
+ghost use Rattle.reading.specs.Verdict.{Sound as SoundBook};
 ghost use Rattle.book.specs.Parts.{StartsAt};
 ghost use Rattle.explore.specs.Held.{Working, MemberIn, ExploredIs};
 use super::Explored;

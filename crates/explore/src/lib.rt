@@ -1,9 +1,9 @@
 // The exploration: one book in, the whole union or a numbered refusal out. What the run is, and what it is worth, stands
 // in `exploration`; specs/ says how the functions hold its state.
 mod admitting;
-mod covering;
 mod exploring;
 mod removing;
+mod searching;
 mod taking_up;
 mod whole_run;
 mod working;

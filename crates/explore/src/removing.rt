@@ -1,8 +1,9 @@
 // Removing every member that a rewriting covers.
 ghost use mathlib.Core.Path.{_≡_};
 ghost use Prim.Native.Nat.{_≤_};
-ghost use Rattle.cover.specs.Record.{desk, questionOf, Sound};
-ghost use Rattle.explore.specs.Held.{Standing, Kept, Working, stateOf, rest};
+ghost use Rattle.covering.specs.Record.{desk, questionOf, Sound};
+ghost use Rattle.explore.specs.Held.{Kept, Working, stateOf, rest};
+ghost use Rattle.exploration.specs.Standing.{Standing};
 use super::Extent;
 use super::FIRST;
 use super::Moved;

@@ -1,13 +1,14 @@
 // Taking up the oldest unexplored member, and taking its next rewriting.
 ghost use mathlib.Core.Path.{_≡_};
-ghost use Prim.Native.Nat.{_≤_, _<_};
+ghost use Prim.Native.Nat.{_<_};
 ghost use lib.ListN.{drop};
-ghost use Rattle.cover.specs.Record.{desk, questionOf, heldIn, Sound};
-ghost use Rattle.book.specs.Book.{bookOf};
-ghost use Rattle.book.specs.Header.{rules as rulesOf};
-ghost use Rattle.book.specs.Verdict.{Sound as SoundBook};
+ghost use Rattle.covering.specs.Record.{desk, questionOf, Sound};
+ghost use Rattle.cover.specs.Buffer.{heldIn};
+ghost use Rattle.reading.specs.Book.{bookOf};
+ghost use Rattle.reading.specs.Header.{rules as rulesOf};
+ghost use Rattle.reading.specs.Verdict.{Sound as SoundBook};
 ghost use Rattle.book.specs.Parts.{StartsAt};
-ghost use Rattle.unify.specs.Choice.{mostChoices};
+ghost use Rattle.unification.specs.Choice.{mostChoices};
 ghost use Rattle.unify.specs.Held.{QuestionIn};
 ghost use Rattle.explore.specs.Held.{Working, OldestIs};
 ghost use Rattle.explore.specs.Taking.{nextAmong, taken};
@@ -16,7 +17,7 @@ use super::FIRST;
 use super::Taken;
 
 // The record at the front of 56 bytes, the rest 255.
-pub fn copy_record(member: &[u8]) -> [u8; 56]
+fn copy_record(member: &[u8]) -> [u8; 56]
     requires { ⌜ Sound desk (now member) ⌝ }
     ensures { λ r. ⌜ r ≡ heldIn desk 56 (questionOf desk (now (member .entry))) ⌝ }
 {

@@ -2,10 +2,11 @@
 ghost use mathlib.Core.Path.{_≡_};
 ghost use Prim.Native.Nat.{_≤_};
 ghost use lib.ListN.{length};
-ghost use Rattle.cover.specs.Form.{form};
-ghost use Rattle.cover.specs.Record.{desk, heldIn};
-ghost use Rattle.book.specs.Book.{bookOf};
-ghost use Rattle.book.specs.Verdict.{Sound as SoundBook};
+ghost use Rattle.covering.specs.Form.{form};
+ghost use Rattle.covering.specs.Record.{desk};
+ghost use Rattle.cover.specs.Buffer.{heldIn};
+ghost use Rattle.reading.specs.Book.{bookOf};
+ghost use Rattle.reading.specs.Verdict.{Sound as SoundBook};
 ghost use Rattle.exploration.specs.Union.{outputSize};
 ghost use Rattle.exploration.specs.Answer.{outcomeOf, Answers};
 ghost use Rattle.explore.specs.Held.{RanIs};
@@ -16,7 +17,6 @@ use super::FIRST;
 use super::OUTPUT;
 use super::Ran;
 use super::exploring::explore;
-use super::taking_up::copy_record;
 use super::taking_up::oldest;
 use super::working::append;
 use super::working::copy_out;
@@ -27,8 +27,7 @@ fn first_member(book: &[u8]) -> [u8; 56]
     requires { ⌜ SoundBook (now book) ⌝ }
     ensures { λ r. ⌜ r ≡ heldIn desk 56 (form (bookOf (now (book .entry)) .question)) ⌝ }
 {
-    let question = book::question(book);
-    cover::in_form(copy_record(&question))
+    cover::in_form(book::question(book))
 }
 
 // Takes up the oldest unexplored member and explores it, until none is unexplored or the run is refused.

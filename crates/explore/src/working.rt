@@ -4,7 +4,7 @@ ghost use mathlib.Core.Path.{_≡_};
 ghost use mathlib.Core.List.{_++_};
 ghost use Prim.Native.Nat.{_+_, _*_, _≤_, _<_};
 ghost use lib.ListN.{length, getD, take, drop};
-ghost use Rattle.cover.specs.Record.{desk, questionOf, recordBytes, Sound};
+ghost use Rattle.covering.specs.Record.{desk, questionOf, recordBytes, Sound};
 ghost use Rattle.exploration.specs.Union.{wordBytes, firstAt};
 use super::FIRST;
 

@@ -9,18 +9,18 @@ use native.Mathlib.Omega.{arith}
 use borrow.Author.Tests.{lt-ltb, le-ltb}
 use lib.Dec.{ltb}
 use lib.ListN.{length, drop, take-append-drop}
-use Rattle.cover.specs.Lists.{_∈_}
-use Rattle.cover.specs.Term.{Question}
-use Rattle.cover.specs.Record.{desk, Fits}
-use Rattle.book.specs.Word.{word}
-use Rattle.book.proofs.Earliest.{le-or-lt}
+use Rattle.covering.specs.Lists.{_∈_}
+use Rattle.covering.specs.Term.{Question}
+use Rattle.covering.specs.Record.{desk, Fits}
+use Rattle.reading.specs.Word.{word}
+use Rattle.covering.proofs.Tests.{le-or-lt}
 use Rattle.exploration.specs.Answer.{Result, union, refusal, result, Answers}
-use Rattle.explore.specs.Held.{Standing}
+use Rattle.exploration.specs.Standing.{Standing}
 use Rattle.exploration.specs.Union.{outputSize, membersBytes, unionBytes, membersOf, exploredOf}
-use Rattle.book.proofs.Fits.{allowed-few}
+use Rattle.reading.proofs.Fits.{allowed-few}
 use Rattle.exploration.proofs.OfBook.{members-most, explored-allowed, desk-fits}
 use Rattle.exploration.proofs.Written.{count-read, offset-read, members-there}
-use Rattle.explore.proofs.Stand.{members-stand}
+use Rattle.exploration.proofs.Standing.{members-stand}
 use Rattle.exploration.proofs.Refused.{refuses-exactly}
 use Rattle.exploration.proofs.Given.{Whole, all, kind, members-are, explored-is, the-bytes, same-length, refused-exactly}
 use Rattle.printing.specs.Printed.{printed}

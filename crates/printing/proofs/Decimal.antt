@@ -9,7 +9,7 @@ use native.Mathlib.Omega.{arith}
 use borrow.Author.Tests.{lt-ltb, le-ltb}
 use lib.Dec.{ltb}
 use lib.ListN.{length, getD, length-append, List·getD-append}
-use Rattle.book.proofs.Earliest.{le-or-lt}
+use Rattle.covering.proofs.Tests.{le-or-lt}
 use Rattle.printing.specs.Printed.{digit, digits, decimal}
 
 abbrev more : ℕ → ℕ → List ℕ

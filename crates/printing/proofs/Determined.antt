@@ -5,7 +5,6 @@ use Prim.Native.Nat.{ℕ}
 use lib.ListN.{take, drop}
 use denote.Ref.{now}
 use Rattle.printing.specs.Put.{Puts}
-use Rattle.printing.proofs.print.Reads as print-reads
 use Rattle.printing.proofs.answer.Reads as answer-reads
 
 -- where the bytes end, and every byte of the text
@@ -21,10 +20,6 @@ put-determined {bytes} {before} {after} {other} {at} {end} {stop} p q = (
 
 -- The same of the contracts themselves, as a caller learns them: `Learnt` at the lifetimes, the arguments, the result
 -- and the exit.
-pub print-learnt : (κs : _) (a : _) (r s : _) (x y : _) → print-reads.Learnt κs a r x → print-reads.Learnt κs a s y
-    → (r ≡ s) × (now (x .1 .1 .1 .0) ≡ now (y .1 .1 .1 .0))
-print-learnt κs a r s x y p q = put-determined p q
-
 pub answer-learnt : (κs : _) (a : _) (r s : _) (x y : _) → answer-reads.Learnt κs a r x → answer-reads.Learnt κs a s y
     → (r ≡ s) × (now (x .1 .0) ≡ now (y .1 .0))
 answer-learnt κs a r s x y p q = put-determined p q

@@ -4,9 +4,9 @@ use mathlib.Core.List.{List, [], _∷_, _++_, List·Memᴰ·head, List·Memᴰ·
 use Prim.Native.Nat.{ℕ, _+_, _*_, _^_, _≤_, _<_}
 use native.Mathlib.Omega.{arith}
 use lib.ListN.{length, length-append}
-use Rattle.cover.specs.Lists.{_∈_, gather}
-use Rattle.cover.specs.Term.{Term, var, con, Atom, Question}
-use Rattle.cover.specs.Record.{desk, TermFits, AtomFits, Fits}
+use Rattle.covering.specs.Lists.{_∈_, gather}
+use Rattle.covering.specs.Term.{Term, var, con, Atom, Question}
+use Rattle.covering.specs.Record.{desk, TermFits, AtomFits, Fits}
 use Rattle.exploration.specs.Answer.{union, refusal}
 use Rattle.printing.specs.Printed.{ascii, decimal, marked, joined, termText, atomText, memberLine, line, printed}
 use Rattle.printing.specs.Answer.{textSize}

@@ -3,13 +3,13 @@ use mathlib.Core.Path.{_≡_, refl, sym, _∙_, ap, ap₂, subst}
 use mathlib.Core.List.{List, _++_}
 use Prim.Native.Nat.{ℕ, zero, suc, _+_}
 use lib.ListN.{length, length-append}
-use Rattle.cover.specs.Lists.{gather}
-use Rattle.cover.specs.Term.{Question}
-use Rattle.book.specs.Word.{word}
-use Rattle.exploration.specs.Union.{membersFrom, membersOf}
+use Rattle.covering.specs.Lists.{gather}
+use Rattle.covering.specs.Term.{Question}
+use Rattle.reading.specs.Word.{word}
+use Rattle.exploration.specs.Union.{membersFrom}
 use Rattle.exploration.proofs.Written.{members-of}
 use Rattle.exploration.proofs.Members.{members-count}
-use Rattle.explore.specs.Held.{Standing}
+use Rattle.exploration.specs.Standing.{Standing}
 use Rattle.printing.specs.Printed.{ascii, memberLine, line, printed}
 use Rattle.printing.specs.Answer.{resultIn, Stands}
 

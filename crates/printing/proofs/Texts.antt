@@ -9,20 +9,20 @@ use borrow.Author.Tests.{eq-eqb, ne-eqb}
 use lib.Dec.{T, ltb}
 use lib.ListN.{length, getD, take, drop, length-append, length-drop}
 use lib.Seq.{getD-drop}
-use Rattle.cover.specs.Lists.{gather}
-use Rattle.cover.specs.Term.{Term, var, con, Question}
-use Rattle.cover.specs.Record.{desk, termOf, argsAt, atomAt, atomsAt, questionOf, isTerm, usedFirst, isAtom, Sound}
-use Rattle.cover.proofs.Lists.{fst-of, snd-of}
-use Rattle.cover.proofs.Bytes.{term-var, term-con}
-use Rattle.cover.proofs.Places.{args-none, args-step, relation-at, args-at, question-at}
-use Rattle.cover.proofs.Steps.{atoms-none, atoms-more}
-use Rattle.cover.proofs.Fitting.{term-is-used}
-use Rattle.cover.proofs.Padded.{desk-apart}
-use Rattle.book.specs.Word.{byte}
+use Rattle.covering.specs.Lists.{gather}
+use Rattle.covering.specs.Term.{Term, var, con, Question}
+use Rattle.covering.specs.Record.{desk, termOf, argsAt, atomAt, atomsAt, questionOf, isTerm, usedFirst, isAtom, Sound}
+use Rattle.covering.proofs.Tests.{fst-of, snd-of}
+use Rattle.covering.proofs.Bytes.{term-var, term-con}
+use Rattle.covering.proofs.Places.{args-none, args-step, relation-at, args-at, question-at}
+use Rattle.covering.proofs.Places.{atoms-none, atoms-more}
+use Rattle.covering.proofs.Fitting.{term-is-used}
+use Rattle.covering.proofs.RoundTrip.{desk-apart}
+use Rattle.reading.specs.Word.{byte}
 use Rattle.exploration.specs.Union.{membersFrom, memberEnd}
-use Rattle.explore.specs.Held.{Standing}
+use Rattle.exploration.specs.Standing.{Standing}
 use Rattle.exploration.proofs.Members.{question-from}
-use Rattle.explore.proofs.Finding.{part-is}
+use Rattle.covering.proofs.Slices.{part-is}
 use Rattle.printing.specs.Printed.{ascii, decimal, marked, joined, termText, atomText, memberLine, line}
 
 less-one : (n : ℕ) → 0 < n → n ≡ suc (n - 1)

@@ -5,9 +5,9 @@ use mathlib.Core.List.{List, []}
 use Prim.Native.Nat.{ℕ, zero, suc, _≤_}
 use lib.Dec.{ltb}
 use lib.ListN.{length}
-use Rattle.book.specs.Word.{word}
+use Rattle.reading.specs.Word.{word}
 use Rattle.exploration.specs.Answer.{Result, union, refusal, result}
-use Rattle.explore.specs.Held.{Standing}
+use Rattle.exploration.specs.Standing.{Standing}
 use Rattle.exploration.specs.Union.{membersOf, exploredOf, outputSize}
 use Rattle.printing.specs.Printed.{printed}
 

@@ -6,8 +6,8 @@ use Prim.Native.Char.{code}
 use Prim.Native.String.{String, [] as empty, _∷_ as _then_}
 use lib.Dec.{ltb}
 use lib.ListN.{length}
-use Rattle.cover.specs.Lists.{gather}
-use Rattle.cover.specs.Term.{Term, var, con, Atom, Question}
+use Rattle.covering.specs.Lists.{gather}
+use Rattle.covering.specs.Term.{Term, var, con, Atom, Question}
 use Rattle.exploration.specs.Answer.{Result, union, refusal}
 
 -- the bytes of a text, a byte for a character

@@ -5,7 +5,7 @@ mod put;
 ghost use mathlib.Core.Path.{_≡_};
 ghost use Prim.Native.Nat.{_+_, _≤_};
 ghost use lib.ListN.{length};
-ghost use Rattle.book.specs.Word.{word as wordAt};
+ghost use Rattle.reading.specs.Word.{word as wordAt};
 ghost use Rattle.printing.specs.Printed.{printed};
 ghost use Rattle.printing.specs.Answer.{resultIn, Printable, linesOf};
 ghost use Rattle.printing.specs.Put.{Puts};
@@ -21,7 +21,7 @@ fn word(s: &[u8], i: usize) -> usize
 }
 
 // Prints what a number, a place and an output say to the front of the text, and answers where it ends.
-pub fn print(number: u8, place: usize, output: &[u8], text: &mut [u8]) -> usize
+fn print(number: u8, place: usize, output: &[u8], text: &mut [u8]) -> usize
     requires { ⌜ Printable number place (now output) (length (now text)) ⌝ }
     ensures { λ r. ⌜ Puts
         (printed (resultIn number place (now (output .entry))))

@@ -2,10 +2,10 @@
 ghost use Prim.Native.Nat.{_+_, _*_, _≤_};
 ghost use lib.Dec.{T};
 ghost use lib.ListN.{length};
-ghost use Rattle.cover.specs.Lists.{gather};
-ghost use Rattle.cover.specs.Record.{desk, argsAt, atomAt, atomsAt, questionOf, isAtom, areAtoms, Sound};
+ghost use Rattle.covering.specs.Lists.{gather};
+ghost use Rattle.covering.specs.Record.{desk, argsAt, atomAt, atomsAt, questionOf, isAtom, areAtoms, Sound};
 ghost use Rattle.exploration.specs.Union.{membersFrom};
-ghost use Rattle.explore.specs.Held.{Standing};
+ghost use Rattle.exploration.specs.Standing.{Standing};
 ghost use Rattle.printing.specs.Printed.{ascii, marked, termText, atomText, memberLine, line};
 ghost use Rattle.printing.specs.Put.{Puts};
 use super::put::put;

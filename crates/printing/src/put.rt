@@ -2,7 +2,7 @@
 ghost use Prim.Native.Nat.{_+_, _≤_, _<_};
 ghost use mathlib.Core.List.{[], _∷_};
 ghost use lib.ListN.{length};
-ghost use Rattle.cover.specs.Record.{termOf};
+ghost use Rattle.covering.specs.Record.{termOf};
 ghost use Rattle.printing.specs.Printed.{digit, decimal, termText};
 ghost use Rattle.printing.specs.Put.{Puts};
 

@@ -1,8 +1,6 @@
 // What one rule makes of one question: each valid choice's number and its rewriting, a book a listing. The relation
 // numbers are in the order of the book's relations.
-ghost use mathlib.Core.Path.{_≡_};
 ghost use Prim.Native.Nat.{_+_, _≤_};
-ghost use lib.ListN.{length};
 ghost use Rattle.unify.specs.Held.{QuestionIn, RuleIn};
 use book::Parts;
 use libc::STDOUT_FILENO;

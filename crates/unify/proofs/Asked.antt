@@ -12,21 +12,24 @@ use native.Mathlib.Nat.{mul-le-mul-left, mul-le-mul-right, le-of-eq, pow-zero}
 use native.Mathlib.Omega.{arith}
 use lib.Dec.{T, leb, leb→le}
 use lib.ListN.{length, getD, length-append}
-use Rattle.cover.specs.Lists.{_∈_, firstOf, numbers}
-use Rattle.cover.specs.Term.{Term, Atom, Question, on-term, on-atom}
-use Rattle.cover.specs.Record.{desk, atomAt, atomsAt, questionOf, isAtom, areAtoms, heldIn}
-use Rattle.cover.specs.Record.{AtomFits, TermFits, Room}
-use Rattle.cover.proofs.Padded.{desk-apart, held-count, held-length, held-question, held-atoms}
-use Rattle.cover.proofs.Places.{question-at}
-use Rattle.cover.proofs.Lengths.{count-atoms, question-count}
-use Rattle.cover.proofs.Fitting.{atom-fits}
-use Rattle.cover.proofs.Terms.{terms-out}
-use Rattle.cover.proofs.Wider.{atom-means, held-written, atom-fits-wider}
-use Rattle.cover.proofs.Steps.{sound-more}
+use Rattle.covering.specs.Lists.{_∈_, firstOf, numbers}
+use Rattle.covering.specs.Term.{Term, Atom, Question, on-term, on-atom}
+use Rattle.covering.specs.Record.{desk, atomAt, atomsAt, questionOf, isAtom, areAtoms}
+use Rattle.cover.specs.Buffer.{heldIn, Room}
+use Rattle.covering.specs.Record.{AtomFits, TermFits}
+use Rattle.cover.proofs.Padded.{held-count, held-length, held-question, held-atoms}
+use Rattle.covering.proofs.RoundTrip.{desk-apart}
+use Rattle.covering.proofs.Places.{question-at}
+use Rattle.covering.proofs.Lengths.{count-atoms, question-count}
+use Rattle.covering.proofs.Fitting.{atom-fits}
+use Rattle.covering.proofs.Terms.{terms-out}
+use Rattle.covering.proofs.Wider.{atom-means, atom-fits-wider}
+use Rattle.cover.proofs.Padded.{held-written}
+use Rattle.covering.proofs.Places.{sound-more}
 use Rattle.book.specs.declared.Parts.{Parts}
 use Rattle.unify.specs.declared.Found.{Found}
-use Rattle.unify.specs.Choice.{count, mostChoices, atomPairs, toHead}
-use Rattle.unify.specs.Step.{up, move, Below, next}
+use Rattle.unification.specs.Choice.{count, mostChoices, atomPairs, toHead}
+use Rattle.unification.specs.Step.{up, move, Below, next}
 use Rattle.unify.specs.Build.{first, firstAt}
 use Rattle.unify.specs.Table.{Table, own, unifyTable, tableBuilder}
 use Rattle.unify.specs.Held.{inBook, ruleIn, ruleOf, classesOf, answered, LeftIn, RuleIn, QuestionIn}
@@ -34,7 +37,7 @@ use Rattle.unify.specs.Held.{ClassesFit, Asks}
 use Rattle.unify.proofs.Each.{below, at}
 use Rattle.unify.proofs.Table.{next-table}
 use Rattle.unify.proofs.Entries.{Ends, unify-good, atom-ends}
-use Rattle.unify.proofs.Numbers.{count-suc}
+use Rattle.unification.proofs.Numbers.{count-suc}
 use Rattle.unify.proofs.Prefixes.{digits-hit, prefix-within, head-pairs, digit-skips}
 use Rattle.unify.proofs.Written.{book-desk, book-apart, all-fit, rest-in}
 

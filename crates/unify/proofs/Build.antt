@@ -11,18 +11,18 @@ use native.Mathlib.Omega.{arith}
 use lib.Dec.{eqb·suc-zero, leb, leb→le}
 use lib.ListN.{length}
 use lib.Seq.{append-snoc}
-use Rattle.cover.specs.Lists.{keep, head, push, bind, firstOf, collect, numbers}
-use Rattle.cover.specs.Term.{Atom, Question, Sub, var}
-use Rattle.cover.proofs.Lists.{not-of, cond-no}
-use Rattle.book.specs.Rule.{Rule}
-use Rattle.unify.specs.Classes.{Pair, merge, unify}
-use Rattle.unify.specs.Choice.{Choice, count, number, choices, someSent, left, toHead, pairing}
-use Rattle.unify.specs.Step.{move, judge, stepApart, step, label, listed, from, next}
+use Rattle.covering.specs.Lists.{keep, head, push, bind, firstOf, collect, numbers}
+use Rattle.covering.specs.Term.{Atom, Question, Sub, var}
+use Rattle.covering.proofs.Tests.{not-of, cond-no}
+use Rattle.covering.specs.Rule.{Rule}
+use Rattle.unification.specs.Classes.{Pair, merge, unify}
+use Rattle.unification.specs.Choice.{Choice, count, number, choices, someSent, left, toHead, pairing}
+use Rattle.unification.specs.Step.{move, judge, stepApart, step, label, listed, from, next}
 use Rattle.unify.specs.Build.{Builder, byDigit, listOf, more, build, first, firstAt, since, builder}
-use Rattle.unify.proofs.Collected.{gather-same, passing, collect-same, collect-none, collect-keep}
-use Rattle.unify.proofs.Collected.{keep-collect, collect-gather, collect-map, head-gather, firstOf-same}
-use Rattle.unify.proofs.Collected.{firstOf-none}
-use Rattle.unify.proofs.Numbers.{count-suc, numbers-below}
+use Rattle.unification.proofs.Collected.{gather-same, passing, collect-same, collect-none, collect-keep}
+use Rattle.unification.proofs.Collected.{keep-collect, collect-gather, collect-map, head-gather, firstOf-same}
+use Rattle.unification.proofs.Collected.{firstOf-none}
+use Rattle.unification.proofs.Numbers.{count-suc, numbers-below}
 
 -- the number of a choice, w being that of the digits before it
 abbrev pub numberFrom : ℕ → ℕ → Choice → ℕ

@@ -9,13 +9,14 @@ use native.Mathlib.Omega.{arith}
 use borrow.Author.Tests.{ltb-true, ltb-false, eqb-true, eq-eqb, ne-eqb}
 use lib.Dec.{eqb, ltb}
 use lib.ListN.{length, getD, length-map, List·getD-eq-default}
-use Rattle.cover.specs.Term.{Term, var, con, on-term}
-use Rattle.cover.specs.Record.{termOf}
-use Rattle.cover.proofs.Bytes.{term-var, term-con}
-use Rattle.cover.proofs.Lists.{either, map-same, map-none}
+use Rattle.covering.specs.Term.{Term, var, con, on-term}
+use Rattle.covering.specs.Record.{termOf}
+use Rattle.covering.proofs.Bytes.{term-var, term-con}
+use Rattle.covering.proofs.Lists.{map-same, map-none}
+use Rattle.covering.proofs.Tests.{either}
 use Rattle.unify.specs.declared.Joined.{Joined}
-use Rattle.unify.specs.Classes.{point}
-use Rattle.unify.specs.Step.{up}
+use Rattle.unification.specs.Classes.{point}
+use Rattle.unification.specs.Step.{up}
 use Rattle.unify.specs.Table.{Table, look, joinTable}
 use Rattle.unify.specs.Held.{classesOf, said}
 

@@ -9,7 +9,7 @@ use native.Mathlib.Nat.{le-of-suc-le-suc, eq-or-lt-of-le, not-suc-le-zero}
 use native.Mathlib.Numerals.{add-one}
 use lib.Dec.{T}
 use lib.ListN.{length, getD, set}
-use Rattle.cover.proofs.Lists.{fst-of, snd-of}
+use Rattle.covering.proofs.Tests.{fst-of, snd-of}
 
 -- the list after i turns
 unfoldable pub done : (ℕ → ℕ) → List ℕ → ℕ → List ℕ

@@ -1,32 +1,16 @@
 -- Laws of a test of the terms that stand in bytes, an atom and a place at a time: one for each way through the code.
 -- There b is the code's answer, of which is known what it says and what it is. Assumes nothing.
-use mathlib.Core.Path.{_≡_, refl, sym, _∙_, ap}
-use mathlib.Core.Bool.{Bool, true, false, _&&_, _||_}
-use mathlib.Core.List.{List, [], _∷_, _++_, map}
+use mathlib.Core.Path.{_≡_, sym, _∙_, ap}
+use mathlib.Core.Bool.{Bool, true, false}
+use mathlib.Core.List.{List, [], map}
 use Prim.Native.Nat.{ℕ, _+_, _-_, _<_}
 use lib.ListN.{getD}
-use Rattle.cover.specs.Lists.{any, all}
-use Rattle.cover.specs.Term.{Term, Sub, on-term, on-question, terms}
-use Rattle.cover.specs.Record.{Layout, size, termOf, argsAt, atomAt, atomsAt}
-use Rattle.cover.proofs.Bytes.{args-more, args-end}
-use Rattle.cover.proofs.Steps.{atoms-none, atoms-more}
-
-module _ {A : Type 0} (p : A → Bool) where
-  pub all-append : (s t : List A) → all p (s ++ t) ≡ all p s && all p t
-  all-append [] t = refl
-  all-append (x ∷ s) t = go (p x) (all-append s t)
-    where
-      go : (b : Bool) → all p (s ++ t) ≡ all p s && all p t → b && all p (s ++ t) ≡ (b && all p s) && all p t
-      go true e = e
-      go false e = refl
-
-  pub any-append : (s t : List A) → any p (s ++ t) ≡ any p s || any p t
-  any-append [] t = refl
-  any-append (x ∷ s) t = go (p x) (any-append s t)
-    where
-      go : (b : Bool) → any p (s ++ t) ≡ any p s || any p t → b || any p (s ++ t) ≡ (b || any p s) || any p t
-      go true e = refl
-      go false e = e
+use Rattle.covering.specs.Lists.{any, all}
+use Rattle.covering.specs.Term.{Term, Sub, on-term, on-question, terms}
+use Rattle.covering.specs.Record.{Layout, size, termOf, argsAt, atomAt, atomsAt}
+use Rattle.covering.proofs.Bytes.{args-more, args-end}
+use Rattle.covering.proofs.Places.{atoms-none, atoms-more}
+use Rattle.covering.proofs.Lists.{all-append, any-append}
 
 args-none : (B : List ℕ) (i w : ℕ) → w ≡ 0 → argsAt B i w ≡ []
 unfolding argsAt

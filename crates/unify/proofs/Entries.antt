@@ -8,11 +8,11 @@ use mathlib.Core.Option.{Option, none, some, Option·some-injective}
 use Prim.Native.Nat.{ℕ, zero, suc}
 use lib.Dec.{eqb}
 use lib.ListN.{getD}
-use Rattle.cover.specs.Lists.{_∈_, bind}
-use Rattle.cover.specs.Term.{Term, var, con, Atom}
-use Rattle.cover.proofs.Lists.{none≢some}
-use Rattle.unify.specs.Classes.{Pair, point}
-use Rattle.unify.specs.Choice.{never, placePairs, atomPairs}
+use Rattle.covering.specs.Lists.{_∈_, bind}
+use Rattle.covering.specs.Term.{Term, var, con, Atom}
+use Rattle.covering.proofs.Tests.{none≢some}
+use Rattle.unification.specs.Classes.{Pair, point}
+use Rattle.unification.specs.Choice.{never, placePairs, atomPairs}
 use Rattle.unify.specs.Table.{Table, look, joinTable, unifyTable}
 
 module _ (Good : Term → Type 0) where

@@ -4,28 +4,50 @@ use mathlib.Core.Path.{_≡_, refl, sym, _∙_, ap, subst}
 use mathlib.Core.Bool.{true, false}
 use mathlib.Core.List.{List}
 use mathlib.Core.Option.{Option, none, some}
-use Prim.Native.Nat.{ℕ, _*_, _≤_, _<_}
+use Prim.Native.Nat.{ℕ, _≤_, _<_}
 use native.Mathlib.Omega.{arith}
-use lib.Dec.{T}
 use lib.ListN.{length, getD}
-use Rattle.cover.specs.Term.{Question}
-use Rattle.cover.specs.Record.{desk, size, questionOf, areAtoms}
-use Rattle.cover.proofs.Lengths.{count-atoms, question-count}
-use Rattle.cover.proofs.Copied.{Copied, are-copied}
+use Rattle.covering.specs.Term.{Question}
+use Rattle.covering.specs.Record.{desk, questionOf, Fits, Sound}
+use Rattle.covering.proofs.Wider.{Wider}
+use Rattle.covering.proofs.Lengths.{count-atoms, question-count}
+use Rattle.cover.specs.Buffer.{heldIn}
+use Rattle.cover.proofs.Padded.{held-sound, held-written}
+use Rattle.reading.proofs.Fits.{question-record}
+use Rattle.unify.proofs.Written.{book-desk, book-apart}
 use Rattle.book.specs.declared.Parts.{Parts}
-use Rattle.book.specs.Header.{rules, atoms, questionAt}
-use Rattle.book.specs.Book.{ruleAt, ruleStart}
-use Rattle.book.specs.Verdict.{Sound}
-use Rattle.book.specs.Parts.{partsAt, QuestionRecord}
-use Rattle.book.proofs.Sound.{Room, sound-header, sound-rule, sound-question, sound-body, sound-head, sound-atoms}
+use Rattle.reading.specs.Header.{rules, atoms}
+use Rattle.reading.specs.Book.{ruleAt, ruleStart, bookOf, layoutOf}
+use Rattle.reading.specs.Verdict.{Sound as SoundBook}
+use Rattle.book.specs.Parts.{partsAt}
+use Rattle.reading.proofs.Sound.{Room, sound-header, sound-rule, sound-question, sound-body, sound-head}
 use Rattle.unify.specs.declared.Found.{Found}
-use Rattle.unify.specs.Choice.{mostChoices}
-use Rattle.unify.specs.Step.{next}
+use Rattle.unification.specs.Choice.{mostChoices}
+use Rattle.unification.specs.Step.{next}
 use Rattle.unify.specs.Held.{inBook, ruleIn, ruleOf, answered, RuleIn, QuestionIn}
-use Rattle.unify.proofs.Following.{next-listed, listed-below}
+use Rattle.unification.proofs.Following.{next-listed, listed-below}
 use Rattle.unify.proofs.Asked.{count-few}
 
-module _ (B : List ℕ) (s : Sound B) where
+-- the record of a question that keeps to the book's bounds can be handed to the lister
+pub held-in : (M : Question) → Fits inBook M → QuestionIn (heldIn desk 56 M)
+held-in M fits = subst QuestionIn (held-written inBook desk book-desk 56 M) own
+  where
+    s : Sound inBook (heldIn inBook 56 M)
+    s = held-sound inBook 56 M book-apart fits (omega (arith, fits .most))
+
+    own : QuestionIn (heldIn inBook 56 M)
+    own = record { atoms = record { fits = s .fits; sound = s .atoms }; few = s .most }
+
+module _ (B : List ℕ) (s : SoundBook B) where
+  pub own-wider : Wider (layoutOf B) inBook
+  own-wider =
+      record {
+        relations = sound-header B s .few-relations;
+        places = refl;
+        variables = omega arith;
+        constants = sound-header B s .few-constants;
+      }
+
   room : Room B inBook
   room =
       let k = sound-header B s in
@@ -57,21 +79,9 @@ module _ (B : List ℕ) (s : Sound B) where
         few-head = r .few-head;
       }
 
-  pub question-in : (R : List ℕ) → QuestionRecord B R → QuestionIn R
-  question-in R q =
-      let k = sound-question B s in
-      let c : Copied inBook B R 1 (questionAt B) (atoms B * size inBook) = λ v l. q .bytes v (omega arith) in
-      record {
-        atoms =
-            record {
-              fits = omega (arith, q .count, k .few-atoms, q .size);
-              sound =
-                  subst (λ (n : ℕ). T (areAtoms inBook R 1 n)) (sym (q .count))
-                  (subst T (sym (are-copied inBook B R (omega arith) 1 (questionAt B) (atoms B) c))
-                  (sound-atoms B s inBook room));
-            };
-        few = omega (arith, q .count, k .few-atoms);
-      }
+  -- the question's record, as `question` gives it
+  pub question-in : (R : List ℕ) → R ≡ heldIn desk 56 (bookOf B .question) → QuestionIn R
+  question-in R e = subst QuestionIn (sym e) (held-in (bookOf B .question) (question-record B inBook room s (omega arith)))
 
 -- the rule that `next` is asked about is the book's
 pub rule-is : (B : List ℕ) (s : ℕ) → ruleOf B (partsAt B s) ≡ ruleAt B s

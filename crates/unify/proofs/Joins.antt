@@ -8,13 +8,13 @@ use Prim.Native.Nat.{ℕ, _+_, _-_, _<_}
 use borrow.Author.Tests.{eqb-true, eqb-false, eq-eqb, ne-eqb}
 use lib.Dec.{eqb}
 use lib.ListN.{getD}
-use Rattle.cover.specs.Term.{on-term, on-atom}
-use Rattle.cover.specs.Record.{Layout, termOf, argsAt, atomAt}
-use Rattle.cover.proofs.Lists.{either}
-use Rattle.cover.proofs.Bytes.{args-more, args-end}
-use Rattle.cover.proofs.Places.{args-none, relation-at, args-at}
-use Rattle.unify.specs.Choice.{placePairs, atomPairs}
-use Rattle.unify.specs.Step.{up}
+use Rattle.covering.specs.Term.{on-term, on-atom}
+use Rattle.covering.specs.Record.{Layout, termOf, argsAt, atomAt}
+use Rattle.covering.proofs.Tests.{either}
+use Rattle.covering.proofs.Bytes.{args-more, args-end}
+use Rattle.covering.proofs.Places.{args-none, relation-at, args-at}
+use Rattle.unification.specs.Choice.{placePairs, atomPairs}
+use Rattle.unification.specs.Step.{up}
 use Rattle.unify.specs.Table.{Table, look, joinTable, unifyTable}
 
 -- no place is left

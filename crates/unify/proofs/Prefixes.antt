@@ -10,18 +10,18 @@ use native.Mathlib.Omega.{arith}
 use borrow.Author.Tests.{le-leb}
 use lib.Dec.{leb}
 use lib.ListN.{length}
-use Rattle.cover.specs.Lists.{bind, firstOf, numbers}
-use Rattle.cover.specs.Form.{form}
-use Rattle.cover.specs.Term.{Atom, Question, Sub, on-atom, on-question}
-use Rattle.cover.specs.Record.{Layout, size, atomAt, atomsAt}
-use Rattle.cover.proofs.Steps.{atoms-none, atoms-more}
-use Rattle.book.specs.Rule.{Rule}
-use Rattle.unify.specs.Choice.{count, atomPairs, toHead}
-use Rattle.unify.specs.Step.{up, move, valid, rewriting, judge}
+use Rattle.covering.specs.Lists.{bind, firstOf, numbers}
+use Rattle.covering.specs.Form.{form}
+use Rattle.covering.specs.Term.{Atom, Question, Sub, on-atom, on-question}
+use Rattle.covering.specs.Record.{Layout, size, atomAt, atomsAt}
+use Rattle.covering.proofs.Places.{atoms-none, atoms-more}
+use Rattle.covering.specs.Rule.{Rule}
+use Rattle.unification.specs.Choice.{count, atomPairs, toHead}
+use Rattle.unification.specs.Step.{up, move, valid, rewriting, judge}
 use Rattle.unify.specs.Build.{first, firstAt, more, since}
 use Rattle.unify.specs.Table.{Table, unifyTable, tabled, tableBuilder}
 use Rattle.unify.proofs.Build.{first-whole, first-digits}
-use Rattle.unify.proofs.Numbers.{count-suc}
+use Rattle.unification.proofs.Numbers.{count-suc}
 use Rattle.unify.proofs.Table.{table-skips}
 
 -- the digits from d on, one at a time

@@ -10,19 +10,19 @@ use Prim.Native.Nat.{ℕ, zero, suc, _+_, _<_, _≤_, _*_}
 use native.Mathlib.Omega.{arith}
 use lib.Dec.{eqb}
 use lib.ListN.{length, length-map, getD}
-use Rattle.cover.specs.Lists.{_∈_, bind, firstOf, numbers}
-use Rattle.cover.specs.Term.{Term, Atom, Question, terms, Sub, on-term, var, con}
-use Rattle.cover.proofs.Terms.{terms-in, terms-out}
-use Rattle.book.specs.Rule.{Rule}
-use Rattle.unify.specs.Classes.{Pair, point, join, unify}
-use Rattle.unify.specs.Choice.{count, never, placePairs, toHead}
-use Rattle.unify.specs.Step.{move, Below, guarded, judge, next}
+use Rattle.covering.specs.Lists.{_∈_, bind, firstOf, numbers}
+use Rattle.covering.specs.Term.{Term, Atom, Question, terms, Sub, on-term, var, con}
+use Rattle.covering.proofs.Terms.{terms-in, terms-out}
+use Rattle.covering.specs.Rule.{Rule}
+use Rattle.unification.specs.Classes.{Pair, point, join, unify}
+use Rattle.unification.specs.Choice.{count, never, placePairs, toHead}
+use Rattle.unification.specs.Step.{move, Below, guarded, judge, next}
 use Rattle.unify.specs.Table.{Table, own, look, tabled, joinTable, unifyTable, tableBuilder}
 use Rattle.unify.specs.Build.{Builder, more, first, firstAt, since, builder}
 use Rattle.unify.proofs.Build.{first-whole, first-digits, first-skips, since-early, next-built}
-use Rattle.unify.proofs.Collected.{firstOf-same}
-use Rattle.unify.proofs.Moved.{moved-below}
-use Rattle.unify.proofs.Same.{judge-same, alike-equal}
+use Rattle.unification.proofs.Collected.{firstOf-same}
+use Rattle.unification.proofs.Moved.{moved-below}
+use Rattle.unification.proofs.Same.{judge-same, alike-equal}
 
 -- the variables of a term are below k
 abbrev pub In : ℕ → Term → Type 0

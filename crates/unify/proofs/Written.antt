@@ -11,24 +11,27 @@ use borrow.Author.Tests.{eqb-true, eqb-false, ltb-true, ltb-false}
 use lib.Dec.{T, eqb, ltb}
 use lib.ListN.{length, getD, set, length-map, length-append, length-set}
 use lib.Seq.{getD-set-same, getD-set-other}
-use Rattle.cover.specs.Lists.{_∈_}
-use Rattle.cover.specs.Term.{Term, var, con, Atom, Question, Sub, on-term, on-atom, on-question, comp}
-use Rattle.cover.specs.Record.{desk, size, termOf, atomAt, atomsAt, questionOf, areAtoms, heldIn}
-use Rattle.cover.specs.Record.{TermFits, AtomFits, AtomIn, Room, Sound}
-use Rattle.cover.specs.Held.{AtomsIn}
+use Rattle.covering.specs.Lists.{_∈_}
+use Rattle.covering.specs.Term.{Term, var, con, Atom, Question, Sub, on-term, on-atom, on-question, comp}
+use Rattle.covering.specs.Record.{desk, size, termOf, atomAt, atomsAt, questionOf, areAtoms}
+use Rattle.cover.specs.Buffer.{heldIn, AtomIn, Room, AtomsIn}
+use Rattle.covering.specs.Record.{TermFits, AtomFits, Sound}
 use Rattle.cover.specs.Building.{subOf}
-use Rattle.cover.proofs.Lists.{either, map-same, map-append}
-use Rattle.cover.proofs.Terms.{on-atom-comp, on-atom-same}
-use Rattle.cover.proofs.Steps.{atoms-none, atoms-more, sound-more}
-use Rattle.cover.proofs.RoundTrip.{Apart}
-use Rattle.cover.proofs.Padded.{desk-apart, held-count, held-question, held-atoms, held-sound}
-use Rattle.cover.proofs.Places.{question-at}
-use Rattle.cover.proofs.Lengths.{count-atoms, question-count}
-use Rattle.cover.proofs.Fitting.{atom-fits, atoms-fit}
+use Rattle.covering.proofs.Lists.{map-same, map-append}
+use Rattle.covering.proofs.Tests.{either}
+use Rattle.covering.proofs.Terms.{on-atom-comp, on-atom-same}
+use Rattle.covering.proofs.Places.{atoms-none, atoms-more, sound-more}
+use Rattle.covering.proofs.RoundTrip.{Apart}
+use Rattle.cover.proofs.Padded.{held-count, held-question, held-atoms, held-sound}
+use Rattle.covering.proofs.RoundTrip.{desk-apart}
+use Rattle.covering.proofs.Places.{question-at}
+use Rattle.covering.proofs.Lengths.{count-atoms, question-count}
+use Rattle.covering.proofs.Fitting.{atom-fits, atoms-fit}
 use Rattle.cover.proofs.Growing.{Grows, grows-question, grows-room, grows-put}
-use Rattle.cover.proofs.Wider.{Wider, atom-means, atoms-mean, in-wider}
+use Rattle.covering.proofs.Wider.{Wider, atom-means, atoms-mean}
+use Rattle.cover.proofs.Within.{in-wider}
 use Rattle.book.specs.declared.Parts.{Parts}
-use Rattle.unify.specs.Step.{up, move, rewriting}
+use Rattle.unification.specs.Step.{up, move, rewriting}
 use Rattle.unify.specs.Table.{tabled}
 use Rattle.unify.specs.Held.{inBook, classesOf, ruleIn, ruleOf, ClassesFit, Filling, UpperHalf, LeftIn, RuleIn}
 use Rattle.unify.proofs.Bytes.{classes-at}

@@ -7,12 +7,12 @@ use mathlib.Core.Option.{Option, none, some}
 use Prim.Native.Nat.{ℕ, zero, suc, _+_, _*_}
 use lib.Dec.{leb}
 use lib.ListN.{length}
-use Rattle.cover.specs.Lists.{push, bind, firstOf, gather, numbers}
-use Rattle.cover.specs.Term.{Atom, Question, Sub}
-use Rattle.book.specs.Rule.{Rule}
-use Rattle.unify.specs.Classes.{unify}
-use Rattle.unify.specs.Choice.{toHead}
-use Rattle.unify.specs.Step.{move, judge, label}
+use Rattle.covering.specs.Lists.{push, bind, firstOf, gather, numbers}
+use Rattle.covering.specs.Term.{Atom, Question, Sub}
+use Rattle.covering.specs.Rule.{Rule}
+use Rattle.unification.specs.Classes.{unify}
+use Rattle.unification.specs.Choice.{toHead}
+use Rattle.unification.specs.Step.{move, judge, label}
 
 pub record Builder (C X : Type 0) : Type 0 where
   -- how many head atoms there are

@@ -7,15 +7,15 @@ use mathlib.Core.Option.{Option, none, some}
 use Prim.Native.Nat.{ℕ, suc, _+_, _*_, _≤_, _<_}
 use lib.Dec.{T}
 use lib.ListN.{length, getD, replicate}
-use Rattle.cover.specs.Lists.{_∈_}
-use Rattle.cover.specs.Term.{Term, Question}
-use Rattle.cover.specs.Record.{Layout, desk, termOf, atomsAt, questionOf, areAtoms, TermFits, heldIn}
-use Rattle.cover.specs.Held.{AtomsIn}
-use Rattle.book.specs.Rule.{Rule}
+use Rattle.covering.specs.Lists.{_∈_}
+use Rattle.covering.specs.Term.{Term, Question}
+use Rattle.covering.specs.Record.{Layout, desk, termOf, atomsAt, questionOf, areAtoms, TermFits}
+use Rattle.cover.specs.Buffer.{heldIn, AtomsIn}
+use Rattle.covering.specs.Rule.{Rule}
 use Rattle.book.specs.declared.Parts.{Parts}
 use Rattle.unify.specs.declared.Joined.{Joined}
 use Rattle.unify.specs.declared.Found.{Found}
-use Rattle.unify.specs.Choice.{count, mostChoices}
+use Rattle.unification.specs.Choice.{count, mostChoices}
 use Rattle.unify.specs.Table.{Table}
 
 -- what a rule's atoms and a question's keep to: variables 0 to 31

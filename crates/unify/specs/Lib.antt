@@ -1,10 +1,5 @@
--- What a reader must believe of one-step rewritings, in the order in which to read it.
-pub mod Classes
-pub mod Choice
-pub mod Step
-pub mod Published
-pub mod Apply
+-- What only the contracts of this crate's functions are said with: the builder, the classes in a table, and how the
+-- code holds rules, classes and an answer. What `next` gives is `unification`'s.
 pub mod Build
 pub mod Table
 pub mod Held
-pub mod Examples

@@ -5,12 +5,12 @@ use mathlib.Core.Option.{Option, none, some}
 use Prim.Native.Nat.{ℕ, zero, suc}
 use lib.Dec.{eqb}
 use lib.ListN.{length, getD}
-use Rattle.cover.specs.Lists.{bind}
-use Rattle.cover.specs.Term.{Term, var, con, Question, Sub}
-use Rattle.book.specs.Rule.{Rule}
-use Rattle.unify.specs.Classes.{Pair, point}
-use Rattle.unify.specs.Choice.{toHead}
-use Rattle.unify.specs.Step.{move, judge}
+use Rattle.covering.specs.Lists.{bind}
+use Rattle.covering.specs.Term.{Term, var, con, Question, Sub}
+use Rattle.covering.specs.Rule.{Rule}
+use Rattle.unification.specs.Classes.{Pair, point}
+use Rattle.unification.specs.Choice.{toHead}
+use Rattle.unification.specs.Step.{move, judge}
 use Rattle.unify.specs.Build.{Builder, since}
 
 abbrev pub Table : Type 0

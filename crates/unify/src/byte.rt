@@ -1,9 +1,9 @@
 // Terms as bytes: the rule's variables moved up by 32, and what stands for a term's class.
 ghost use mathlib.Core.Path.{_≡_};
 ghost use Prim.Native.Nat.{_≤_, _<_};
-ghost use Rattle.cover.specs.Term.{on-term};
-ghost use Rattle.cover.specs.Record.{termOf};
-ghost use Rattle.unify.specs.Step.{up};
+ghost use Rattle.covering.specs.Term.{on-term};
+ghost use Rattle.covering.specs.Record.{termOf};
+ghost use Rattle.unification.specs.Step.{up};
 ghost use Rattle.unify.specs.Table.{look};
 ghost use Rattle.unify.specs.Held.{classesOf};
 

@@ -8,11 +8,11 @@ ghost use mathlib.Core.List.{map};
 ghost use Prim.Native.Nat.{_+_, _≤_, _<_};
 ghost use lib.Dec.{T, eqb};
 ghost use lib.ListN.{length};
-ghost use Rattle.cover.specs.Term.{on-term, on-atom};
-ghost use Rattle.cover.specs.Record.{desk, termOf, argsAt, atomAt, usedFirst, isAtom};
-ghost use Rattle.unify.specs.Classes.{point};
-ghost use Rattle.unify.specs.Choice.{placePairs, atomPairs};
-ghost use Rattle.unify.specs.Step.{up};
+ghost use Rattle.covering.specs.Term.{on-term, on-atom};
+ghost use Rattle.covering.specs.Record.{desk, termOf, argsAt, atomAt, usedFirst, isAtom};
+ghost use Rattle.unification.specs.Classes.{point};
+ghost use Rattle.unification.specs.Choice.{placePairs, atomPairs};
+ghost use Rattle.unification.specs.Step.{up};
 ghost use Rattle.unify.specs.Table.{own, joinTable, unifyTable};
 ghost use Rattle.unify.specs.Held.{inBook, classesOf, said};
 

@@ -8,11 +8,11 @@ ghost use mathlib.Core.List.{map};
 ghost use Prim.Native.Nat.{_+_, _*_, _≤_};
 ghost use lib.Dec.{T};
 ghost use lib.ListN.{length, getD};
-ghost use Rattle.cover.specs.Lists.{all};
-ghost use Rattle.cover.specs.Term.{on-term, on-question, terms, eqTerm};
-ghost use Rattle.cover.specs.Record.{desk, termOf, argsAt, atomsAt, usedFirst};
-ghost use Rattle.cover.specs.Held.{AtomsIn};
-ghost use Rattle.unify.specs.Step.{up, move, memTerm, isUnknown, guarded, safe, valid};
+ghost use Rattle.covering.specs.Lists.{all};
+ghost use Rattle.covering.specs.Term.{on-term, on-question, terms, eqTerm};
+ghost use Rattle.covering.specs.Record.{desk, termOf, argsAt, atomsAt, usedFirst};
+ghost use Rattle.cover.specs.Buffer.{AtomsIn};
+ghost use Rattle.unification.specs.Step.{up, move, memTerm, isUnknown, guarded, safe, valid};
 ghost use Rattle.unify.specs.Table.{tabled};
 ghost use Rattle.unify.specs.Held.{inBook, ruleIn, classesOf};
 

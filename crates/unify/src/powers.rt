@@ -2,7 +2,7 @@
 // nine."
 ghost use mathlib.Core.Path.{_≡_};
 ghost use Prim.Native.Nat.{_≤_};
-ghost use Rattle.unify.specs.Choice.{count};
+ghost use Rattle.unification.specs.Choice.{count};
 
 const COUNTS: [[usize; 9]; 4] = [
     [1, 2, 4, 8, 16, 32, 64, 128, 256],

@@ -1,13 +1,13 @@
 -- Each test stands for its refusal, in the order of the numbers. Assumes nothing.
 use borrow.Author.Needs.{needs}
 use mathlib.Core.Path.{_≡_, sym, _∙_, ap}
-use Rattle.book.specs.declared.Header.{Header}
+use Rattle.reading.specs.declared.Header.{Header}
 use mathlib.Core.Bool.{true, false}
 use borrow.Author.Tests.{not-true, not-false}
-use Rattle.cover.proofs.Lists.{true→T}
+use Rattle.covering.proofs.Tests.{true→T}
 use lib.ListN.{length}
-use Rattle.book.specs.Header.{headerOf}
-use Rattle.book.specs.Verdict.{inTable, offsetsRight}
+use Rattle.reading.specs.Header.{headerOf}
+use Rattle.reading.specs.Verdict.{inTable, offsetsRight}
 use Rattle.book.proofs.Steps.{verdict-two, verdict-three, verdict-four, verdict-contents}
 use Rattle.book.proofs.check.Statement.{statement}
 use Rattle.book.proofs.check.Tie as tie

@@ -1,24 +1,30 @@
--- Each turn copies one byte to its place behind the count. Assumes nothing.
+-- Each turn copies one byte to its place behind the count, and the bytes copied are the record of the question.
+-- Assumes nothing.
 use borrow.Author.Needs.{needs}
 use native.Mathlib.Omega.{arith}
-use mathlib.Core.Path.{_≡_, refl, _∙_, ap}
-use Prim.Native.Nat.{ℕ, _+_, _*_, _-_, _≤_, _<_}
-use lib.ListN.{length, getD, length-set}
-use Rattle.book.specs.declared.Header.{Header}
-use Rattle.book.specs.Word.{byte}
-use Rattle.book.specs.Header.{atoms, questionAt}
-use Rattle.book.proofs.Stores.{zeros-after, stored-other, stored-after}
-use Rattle.book.proofs.Sound.{sound-header, sound-long}
+use mathlib.Core.Path.{_≡_, refl, sym, _∙_, ap}
+use mathlib.Core.List.{_∷_}
+use Prim.Native.Nat.{ℕ, _+_, _*_, _-_, _≤_}
+use lib.ListN.{length, set, drop, replicate, length-set}
+use lib.Seq.{paste, paste-zero}
+use Rattle.covering.specs.Record.{desk}
+use Rattle.covering.proofs.RoundTrip.{desk-apart}
+use Rattle.covering.proofs.Slices.{paste-next}
+use Rattle.cover.specs.Buffer.{heldIn}
+use Rattle.cover.proofs.Padded.{copied-held}
+use Rattle.reading.specs.declared.Header.{Header}
+use Rattle.reading.specs.Word.{byte}
+use Rattle.reading.specs.Header.{atoms, questionAt}
+use Rattle.reading.proofs.Sound.{sound-header, sound-long, sound-question, sound-atoms, desk-room}
+use Rattle.reading.proofs.Reading.{book-question}
 use Rattle.book.proofs.question.Statement.{statement}
 use Rattle.book.proofs.question.Tie as tie
 
 abbrev Inv-loop : tie.InvT-loop
 Inv-loop book q n r₀ i₀ r i =
     (i ≤ n)
-    × (length r ≡ 41)
-    × (getD r 0 0 ≡ atoms book)
-    × ((j : ℕ) → j < i → getD r (1 + j) 0 ≡ byte book (questionAt book + j))
-    × ((j : ℕ) → i ≤ j → getD r (1 + j) 0 ≡ 0)
+    × (length r ≡ 56)
+    × (r ≡ paste (atoms book ∷ replicate 55 255) 1 (drop (questionAt book) book) i)
 
 abbrev μ-loop : tie.MeasureT-loop
 μ-loop book q n r₀ i₀ r i = n - i
@@ -52,8 +58,12 @@ array-write-r c = search needs
 
 loop-holds : tie.Need-loop-holds Inv-loop μ-loop
 loop-holds c =
-    let n = c .before .before .read .result .atoms in
-    (search needs, refl, count (c .before .before), λ j l. absurd (omega arith), λ j l. zeros-after n 40 j)
+    let B = c .before .before .before .before .args .book .now in (
+      search needs,
+      refl,
+      ap (λ (k : ℕ). k ∷ replicate 55 255) (count (c .before .before))
+          ∙ paste-zero (atoms B ∷ replicate 55 255) 1 (drop (questionAt B) B),
+    )
 
 add-r : tie.Need-add-r Inv-loop μ-loop
 add-r c = omega (arith, within (c .before .before .before .before))
@@ -78,27 +88,32 @@ loop-again c =
     let B = c .before .before .before .before .before .before .before .args .book .now in
     let here = c .before .before .loop in
     let v = byte B (c .before .before .before .before .before .read .result .question + here .i) in
-    let e = ap (λ (x : ℕ). byte B (x + here .i)) (start (c .before .before .before .before .before)) in
-    let l = here .inv .1 in
-    let m = few (c .before .before .before .before .before) in (
+    let at = start (c .before .before .before .before .before) in
+    let e = ap (λ (x : ℕ). byte B (x + here .i)) at in
+    let m = few (c .before .before .before .before .before) in
+    let w = within (c .before .before .before .before .before) in (
       search needs,
-      length-set (here .r) (1 + here .i) v ∙ l,
-      stored-other (here .r) (1 + here .i) v 0 (λ f. omega arith) ∙ here .inv .2,
-      stored-after (here .r) (here .i) v (λ j. byte B (questionAt B + j)) (omega arith) (here .inv .3) e,
-      λ j m. stored-other (here .r) (1 + here .i) v (1 + j) (λ f. omega arith) ∙ here .inv .4 j (omega arith),
+      length-set (here .r) (1 + here .i) v ∙ here .inv .1,
+      ap (set (here .r) (1 + here .i)) e
+          ∙ paste-next (atoms B ∷ replicate 55 255) 1 B (questionAt B) (here .i) (here .r) (here .inv .2) (omega arith)
+          (omega arith),
     )
 
 returns : tie.Need-returns Inv-loop μ-loop
 returns c =
     let here = c .before .loop in
+    let B = c .before .before .before .before .before .before .args .book .now in
+    let s = c .before .before .before .before .before .before .pre in
     let n = count (c .before .before .before .before) in
     let l = c .loop-test .left in
-    record {
-      size = here .inv .1;
-      count = here .inv .2;
-      bytes = λ i m. here .inv .3 i (omega arith);
-      rest = λ i m. here .inv .4 i (omega arith);
-    }
+    let end : here .i ≡ atoms B * 5 = omega (arith, here .inv .0) in
+    let q = sound-question B s in
+    here .inv .2
+    ∙ ap (paste (atoms B ∷ replicate 55 255) 1 (drop (questionAt B) B)) end
+    ∙ copied-held desk desk-apart B (questionAt B) (atoms B) 55
+    (record { fits = omega (arith, q .ends); sound = sound-atoms B s desk (desk-room B s) })
+    (omega (arith, q .few-atoms))
+    ∙ ap (heldIn desk 56) (sym (book-question B))
 
 pub question-spec : {M : Type 1} → statement M
 question-spec =

@@ -4,9 +4,9 @@ use native.Mathlib.Omega.{arith}
 use mathlib.Core.Path.{_≡_}
 use mathlib.Core.List.{List}
 use Prim.Native.Nat.{ℕ}
-use Rattle.book.specs.declared.Header.{Header}
-use Rattle.book.specs.Header.{relations, constants, rules, atoms, allowed, relationsAt, rulesAt, questionAt}
-use Rattle.book.specs.Header.{total, headerOf}
+use Rattle.reading.specs.declared.Header.{Header}
+use Rattle.reading.specs.Header.{relations, constants, rules, atoms, allowed, relationsAt, rulesAt, questionAt}
+use Rattle.reading.specs.Header.{total, headerOf}
 use Rattle.book.proofs.read.Statement.{statement}
 use Rattle.book.proofs.read.Tie as tie
 

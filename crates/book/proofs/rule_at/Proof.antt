@@ -4,7 +4,7 @@ use mathlib.Core.Path.{_≡_}
 use mathlib.Core.List.{List}
 use Prim.Native.Nat.{ℕ, _+_, _*_}
 use Rattle.book.specs.declared.Parts.{Parts}
-use Rattle.book.specs.Word.{byte}
+use Rattle.reading.specs.Word.{byte}
 use Rattle.book.specs.Parts.{partsAt}
 use Rattle.book.proofs.rule_at.Statement.{statement}
 use Rattle.book.proofs.rule_at.Tie as tie

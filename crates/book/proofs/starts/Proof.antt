@@ -4,12 +4,12 @@ use native.Mathlib.Omega.{arith}
 use mathlib.Core.Path.{_≡_, refl, sym, _∙_, ap, subst}
 use Prim.Native.Nat.{ℕ, _+_, _*_, _-_, _≤_, _<_}
 use lib.ListN.{length, getD, length-set}
-use Rattle.book.specs.declared.Header.{Header}
-use Rattle.book.specs.Header.{rules}
-use Rattle.book.specs.Book.{ruleEnd, rulesStart, ruleStart}
-use Rattle.book.proofs.After.{after-zero, after-next}
+use Rattle.reading.specs.declared.Header.{Header}
+use Rattle.reading.specs.Header.{rules}
+use Rattle.reading.specs.Book.{ruleEnd, rulesStart, ruleStart}
+use Rattle.reading.proofs.After.{after-zero, after-next}
 use Rattle.book.proofs.Stores.{stored-upto, stored-other, first-only, others-zero}
-use Rattle.book.proofs.Sound.{SoundRule, sound-rule, sound-header, sound-long}
+use Rattle.reading.proofs.Sound.{SoundRule, sound-rule, sound-header, sound-long}
 use Rattle.book.proofs.starts.Statement.{statement}
 use Rattle.book.proofs.starts.Tie as tie
 

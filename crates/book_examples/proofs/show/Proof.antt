@@ -3,11 +3,11 @@ use borrow.Author.Needs.{needs}
 use native.Mathlib.Omega.{arith}
 use mathlib.Core.Path.{_≡_, sym, _∙_, ap}
 use Prim.Native.Nat.{_-_, _≤_, _<_}
-use Rattle.book.specs.declared.Header.{Header}
-use Rattle.book.specs.declared.Refusal.{Refusal}
-use Rattle.book.specs.Header.{rules}
-use Rattle.book.specs.Verdict.{Sound}
-use Rattle.book.proofs.Sound.{sound-long, sound-header, sound-rule}
+use Rattle.reading.specs.declared.Header.{Header}
+use Rattle.reading.specs.declared.Refusal.{Refusal}
+use Rattle.reading.specs.Header.{rules}
+use Rattle.reading.specs.Verdict.{Sound}
+use Rattle.reading.proofs.Sound.{sound-long, sound-header, sound-rule}
 use Rattle.book_examples.proofs.show.Statement.{statement}
 use Rattle.book_examples.proofs.show.Tie as tie
 

@@ -3,7 +3,7 @@ use borrow.Author.Needs.{needs}
 use native.Mathlib.Omega.{arith}
 use mathlib.Core.Path.{sym}
 use Prim.Native.Nat.{_+_}
-use Rattle.book.proofs.Reading.{word-is}
+use Rattle.reading.proofs.Reading.{word-is}
 use Rattle.printing.proofs.word.Statement.{statement}
 use Rattle.printing.proofs.word.Tie as tie
 

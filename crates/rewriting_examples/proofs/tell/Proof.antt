@@ -3,12 +3,12 @@ use borrow.Author.Needs.{needs}
 use native.Mathlib.Omega.{arith}
 use mathlib.Core.Path.{sym, _∙_, ap, subst}
 use Prim.Native.Nat.{_<_}
-use Rattle.book.specs.declared.Header.{Header}
-use Rattle.book.specs.declared.Refusal.{Refusal}
-use Rattle.book.specs.Header.{rules}
-use Rattle.book.specs.Verdict.{Sound}
+use Rattle.reading.specs.declared.Header.{Header}
+use Rattle.reading.specs.declared.Refusal.{Refusal}
+use Rattle.reading.specs.Header.{rules}
+use Rattle.reading.specs.Verdict.{Sound}
 use Rattle.book.specs.Parts.{partsAt}
-use Rattle.book.proofs.Sound.{sound-long, sound-header, sound-rule}
+use Rattle.reading.proofs.Sound.{sound-long, sound-header, sound-rule}
 use Rattle.unify.specs.Held.{RuleIn}
 use Rattle.unify.proofs.FromBook.{rule-in, question-in}
 use Rattle.rewriting_examples.proofs.tell.Statement.{statement}

@@ -2,8 +2,8 @@
 use native.Mathlib.Omega.{arith}
 use mathlib.Core.Path.{_≡_, sym, _∙_, subst}
 use Prim.Native.Nat.{_+_}
-use Rattle.book.specs.declared.Header.{Header}
-use Rattle.book.specs.Verdict.{told, wrongPlaces, wrongRule}
+use Rattle.reading.specs.declared.Header.{Header}
+use Rattle.reading.specs.Verdict.{told, wrongPlaces, wrongRule}
 use Rattle.book.proofs.Known.{known, judged}
 use Rattle.book.proofs.Steps.{same-number, five, six, told-none, contents-five, contents-six, contents-seven}
 use Rattle.book.proofs.judge.contents.Statement.{statement}

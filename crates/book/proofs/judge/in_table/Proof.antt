@@ -2,7 +2,7 @@
 use borrow.Author.Needs.{needs}
 use mathlib.Core.Path.{ap₂}
 use mathlib.Core.Bool.{_&&_}
-use Rattle.book.specs.Verdict.{inTable}
+use Rattle.reading.specs.Verdict.{inTable}
 use Rattle.book.proofs.judge.in_table.Statement.{statement}
 use Rattle.book.proofs.judge.in_table.Tie as tie
 

@@ -1,7 +1,7 @@
 -- The five tests together. Assumes nothing.
 use borrow.Author.Needs.{needs}
 use mathlib.Core.Path.{refl}
-use Rattle.book.specs.Verdict.{offsetsRight}
+use Rattle.reading.specs.Verdict.{offsetsRight}
 use Rattle.book.proofs.judge.offsets_right.Statement.{statement}
 use Rattle.book.proofs.judge.offsets_right.Tie as tie
 

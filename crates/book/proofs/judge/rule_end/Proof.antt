@@ -6,10 +6,10 @@ use mathlib.Core.Bool.{Bool, true, false, cond, _&&_}
 use mathlib.Core.List.{List}
 use Prim.Native.Nat.{ℕ, _+_, _*_}
 use lib.Dec.{leb}
-use Rattle.book.specs.Word.{byte}
-use Rattle.book.specs.Header.{inside, bodyRange, headRange}
-use Rattle.book.specs.Book.{ruleEnd}
-use Rattle.book.specs.Verdict.{ruleRight}
+use Rattle.reading.specs.Word.{byte}
+use Rattle.reading.specs.Header.{inside, bodyRange, headRange}
+use Rattle.reading.specs.Book.{ruleEnd}
+use Rattle.reading.specs.Verdict.{ruleRight}
 use Rattle.book.proofs.Steps.{rule-short}
 use Rattle.book.proofs.judge.rule_end.Statement.{statement}
 use Rattle.book.proofs.judge.rule_end.Tie as tie

@@ -2,8 +2,8 @@
 use native.Mathlib.Omega.{arith}
 use mathlib.Core.Path.{_≡_, sym, _∙_, ap, subst}
 use Prim.Native.Nat.{_+_}
-use Rattle.book.specs.declared.Header.{Header}
-use Rattle.book.specs.Verdict.{told, wrongRule, wrongInAtoms, wrongInRules}
+use Rattle.reading.specs.declared.Header.{Header}
+use Rattle.reading.specs.Verdict.{told, wrongRule, wrongInAtoms, wrongInRules}
 use Rattle.book.proofs.Known.{known, judged}
 use Rattle.book.proofs.Steps.{same-number, in-rules, byte-in-rules, byte-in-question}
 use Rattle.book.proofs.judge.wrong_byte.Statement.{statement}

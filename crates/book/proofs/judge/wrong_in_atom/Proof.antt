@@ -2,12 +2,12 @@
 use borrow.Author.Needs.{needs}
 use native.Mathlib.Omega.{arith}
 use Prim.Native.Nat.{ℕ, _+_, _<_}
-use Rattle.book.specs.Word.{byte}
-use Rattle.book.specs.Header.{relations}
-use Rattle.book.specs.Book.{placesOf}
+use Rattle.reading.specs.Word.{byte}
+use Rattle.reading.specs.Header.{relations}
+use Rattle.reading.specs.Book.{placesOf}
 use Rattle.book.proofs.Steps.{relation-wrong, relation-right}
 use mathlib.Core.Path.{_≡_, sym, _∙_, ap}
-use Rattle.book.specs.Verdict.{told, wrongPlace}
+use Rattle.reading.specs.Verdict.{told, wrongPlace}
 use Rattle.book.proofs.judge.wrong_in_atom.Statement.{statement}
 use Rattle.book.proofs.judge.wrong_in_atom.Tie as tie
 

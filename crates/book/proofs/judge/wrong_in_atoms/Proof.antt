@@ -5,7 +5,7 @@ use mathlib.Core.Path.{_≡_, sym, _∙_, ap}
 use Prim.Native.Nat.{_+_, _*_, _-_, _≤_}
 use native.Mathlib.Nat.{sub-zero}
 use lib.ListN.{length}
-use Rattle.book.specs.Verdict.{told, wrongInAtom, wrongInAtoms}
+use Rattle.reading.specs.Verdict.{told, wrongInAtom, wrongInAtoms}
 use Rattle.book.proofs.Steps.{same-number, else-found, else-next, atoms-end, atoms-more}
 use Rattle.book.proofs.judge.wrong_in_atoms.Statement.{statement}
 use Rattle.book.proofs.judge.wrong_in_atoms.Tie as tie

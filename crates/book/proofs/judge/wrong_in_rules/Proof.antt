@@ -6,8 +6,8 @@ use mathlib.Core.Option.{none}
 use Prim.Native.Nat.{ℕ, _+_, _*_, _-_, _≤_}
 use native.Mathlib.Nat.{sub-zero}
 use lib.ListN.{length}
-use Rattle.book.specs.Book.{bodyCount, headCount, ruleEnd}
-use Rattle.book.specs.Verdict.{told, wrongRule, wrongInAtoms, wrongInRules}
+use Rattle.reading.specs.Book.{bodyCount, headCount, ruleEnd}
+use Rattle.reading.specs.Verdict.{told, wrongRule, wrongInAtoms, wrongInRules}
 use Rattle.book.proofs.Steps.{same-number, else-found, else-next, NextRule, next-rule, bytes-end, bytes-more}
 use Rattle.book.proofs.judge.wrong_in_rules.Statement.{statement}
 use Rattle.book.proofs.judge.wrong_in_rules.Tie as tie

@@ -5,10 +5,10 @@ use mathlib.Core.Path.{_≡_, refl, sym, _∙_, ap, ap₂}
 use Prim.Native.Nat.{ℕ, _+_, _-_, _≤_}
 use mathlib.Core.Bool.{true, false}
 use lib.Dec.{ltb}
-use Rattle.book.specs.Word.{byte}
-use Rattle.book.specs.Header.{constants}
-use Rattle.book.specs.Refusals.{placeAllowed}
-use Rattle.book.specs.Verdict.{told, wrongPlace}
+use Rattle.reading.specs.Word.{byte}
+use Rattle.reading.specs.Header.{constants}
+use Rattle.reading.specs.Refusals.{placeAllowed}
+use Rattle.reading.specs.Verdict.{told, wrongPlace}
 use Rattle.book.proofs.Steps.{place-end, place-wrong, place-right}
 use Rattle.book.proofs.judge.wrong_place.Statement.{statement}
 use Rattle.book.proofs.judge.wrong_place.Tie as tie

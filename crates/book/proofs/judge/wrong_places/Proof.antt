@@ -6,9 +6,9 @@ use mathlib.Core.Path.{_≡_, sym, _∙_, ap}
 use Prim.Native.Nat.{ℕ, _+_, _-_, _≤_}
 use mathlib.Core.Bool.{true, false}
 use native.Mathlib.Nat.{sub-zero}
-use Rattle.book.specs.Word.{byte}
-use Rattle.book.specs.Header.{within, inside, placesRange}
-use Rattle.book.specs.Verdict.{told, wrongPlaces}
+use Rattle.reading.specs.Word.{byte}
+use Rattle.reading.specs.Header.{within, inside, placesRange}
+use Rattle.reading.specs.Verdict.{told, wrongPlaces}
 use Rattle.book.proofs.Steps.{places-end, places-wrong, places-right}
 use Rattle.book.proofs.judge.wrong_places.Statement.{statement}
 use Rattle.book.proofs.judge.wrong_places.Tie as tie

@@ -5,11 +5,11 @@ use mathlib.Core.Path.{_≡_, sym, _∙_, ap}
 use Prim.Native.Nat.{ℕ, _+_, _-_, _≤_}
 use native.Mathlib.Nat.{sub-zero}
 use mathlib.Core.Bool.{Bool, cond}
-use Rattle.book.specs.Book.{ruleEnd}
-use Rattle.book.specs.Verdict.{told, wrongRule}
+use Rattle.reading.specs.Book.{ruleEnd}
+use Rattle.reading.specs.Verdict.{told, wrongRule}
 use Rattle.book.proofs.Steps.{rules-end-right, rules-end-wrong, rules-stop, rules-pass, end-wrong, end-right}
-use Rattle.book.proofs.Conditions.{rule-right}
-use Rattle.cover.proofs.Lists.{true→T}
+use Rattle.reading.proofs.Conditions.{rule-right}
+use Rattle.covering.proofs.Tests.{true→T}
 use Rattle.book.proofs.judge.wrong_rule.Statement.{statement}
 use Rattle.book.proofs.judge.wrong_rule.Tie as tie
 

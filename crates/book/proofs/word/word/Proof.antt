@@ -1,7 +1,7 @@
 -- Two bytes, the low one first. Assumes nothing.
 use borrow.Author.Needs.{needs}
 use native.Mathlib.Omega.{arith}
-use Rattle.book.specs.Word.{word}
+use Rattle.reading.specs.Word.{word}
 use Rattle.book.proofs.word.word.Statement.{statement}
 use Rattle.book.proofs.word.word.Tie as tie
 

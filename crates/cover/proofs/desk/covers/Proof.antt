@@ -3,10 +3,10 @@ use borrow.Author.Needs.{needs}
 use mathlib.Core.Path.{_≡_, sym, _∙_}
 use mathlib.Core.Bool.{true}
 use borrow.Author.Tests.{not-true, not-false}
-use Rattle.cover.specs.Record.{desk, isRecord}
-use Rattle.cover.proofs.Lists.{true→T}
-use Rattle.cover.proofs.Bytes.{record-sound}
-use Rattle.cover.proofs.Answers.{answer-2, answer-3, answer-covers}
+use Rattle.covering.specs.Record.{desk, isRecord}
+use Rattle.covering.proofs.Tests.{true→T}
+use Rattle.covering.proofs.Bytes.{record-sound}
+use Rattle.covering.proofs.Answers.{answer-2, answer-3, answer-covers}
 use Rattle.cover.proofs.desk.covers.Statement.{statement}
 use Rattle.cover.proofs.desk.covers.Tie as tie
 

@@ -2,8 +2,8 @@
 -- back.
 use borrow.Author.Needs.{needs}
 use mathlib.Core.Path.{sym, _∙_}
-use Rattle.cover.specs.Record.{desk}
-use Rattle.cover.proofs.Answers.{keeps-first, keeps-second, keeps-neither}
+use Rattle.covering.specs.Record.{desk}
+use Rattle.covering.proofs.Answers.{keeps-first, keeps-second, keeps-neither}
 use Rattle.cover.proofs.desk.keep.Statement.{statement}
 use Rattle.cover.proofs.desk.keep.Tie as tie
 

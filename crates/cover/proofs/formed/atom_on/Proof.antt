@@ -7,12 +7,13 @@ use Prim.Native.Nat.{ℕ, _-_, _≤_, _<_}
 use borrow.Author.Count.{below-more}
 use lib.ListN.{length, getD, length-set}
 use lib.Seq.{ext-getD}
-use Rattle.cover.specs.Term.{on-atom}
-use Rattle.cover.specs.Record.{desk, atomAt, atomBytes}
+use Rattle.covering.specs.Term.{on-atom}
+use Rattle.covering.specs.Record.{desk, atomAt, atomBytes}
 use Rattle.cover.specs.Building.{subOf}
-use Rattle.cover.proofs.Lengths.{atom-long}
-use Rattle.cover.proofs.Padded.{desk-apart}
-use Rattle.cover.proofs.AtomBytes.{place-byte, atom-on-relation, atom-on-place, set-agrees}
+use Rattle.covering.proofs.Lengths.{atom-long}
+use Rattle.covering.proofs.RoundTrip.{desk-apart}
+use Rattle.cover.proofs.AtomBytes.{place-byte, atom-on-relation, atom-on-place}
+use Rattle.cover.proofs.AtomBytes.{set-agrees}
 use Rattle.cover.proofs.formed.atom_on.Statement.{statement}
 use Rattle.cover.proofs.formed.atom_on.Tie as tie
 

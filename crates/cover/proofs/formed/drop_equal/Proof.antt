@@ -6,15 +6,15 @@ use mathlib.Core.Path.{_≡_, sym, ap, _∙_, subst}
 use mathlib.Core.List.{List, []}
 use Prim.Native.Nat.{ℕ, _+_, _*_, _-_, _≤_}
 use lib.ListN.{getD}
-use Rattle.cover.specs.Term.{Question, eqAtom}
-use Rattle.cover.specs.Form.{dedup}
-use Rattle.cover.specs.Record.{desk, atomsAt, questionOf, heldIn}
-use Rattle.cover.specs.Held.{AtomsIn}
+use Rattle.covering.specs.Term.{Question, eqAtom}
+use Rattle.covering.specs.Form.{dedup}
+use Rattle.covering.specs.Record.{desk, atomsAt, questionOf}
+use Rattle.cover.specs.Buffer.{heldIn, AtomsIn}
 use Rattle.cover.specs.Building.{addedAll}
-use Rattle.cover.proofs.Steps.{sound-in}
-use Rattle.cover.proofs.Padded.{desk-apart}
+use Rattle.cover.proofs.Within.{sound-in}
+use Rattle.covering.proofs.RoundTrip.{desk-apart}
 use Rattle.cover.proofs.Leftward.{dedup-leftward}
-use Rattle.cover.proofs.Fitting.{atom-fits}
+use Rattle.covering.proofs.Fitting.{atom-fits}
 use Rattle.cover.proofs.Passing.{in-next, added-done, added-next}
 use Rattle.cover.proofs.Growing.{Grows, grows-none, grows-room, grows-added}
 use Rattle.cover.proofs.formed.drop_equal.Statement.{statement}

@@ -2,9 +2,9 @@
 -- is among those from here on, and these are sound. The measure is their number.
 use native.Mathlib.Omega.{arith}
 use mathlib.Core.Path.{_≡_, refl, sym, _∙_}
-use Rattle.cover.specs.Term.{eqAtom}
-use Rattle.cover.specs.Record.{desk, atomAt, atomsAt, questionOf}
-use Rattle.cover.specs.Held.{AtomsIn}
+use Rattle.covering.specs.Term.{eqAtom}
+use Rattle.covering.specs.Record.{desk, atomAt, atomsAt, questionOf}
+use Rattle.cover.specs.Buffer.{AtomsIn}
 use Rattle.cover.specs.Building.{has}
 use Rattle.cover.proofs.Passing.{in-next, some-none, some-hit, some-miss}
 use Rattle.cover.proofs.formed.has_atom.Statement.{statement}

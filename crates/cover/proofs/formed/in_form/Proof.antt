@@ -3,9 +3,10 @@
 use borrow.Author.Needs.{needs}
 use native.Mathlib.Omega.{arith}
 use mathlib.Core.Path.{ap, _∙_}
-use Rattle.cover.specs.Form.{renumber, form}
-use Rattle.cover.specs.Record.{desk, heldIn}
-use Rattle.cover.proofs.Padded.{desk-apart}
+use Rattle.covering.specs.Form.{renumber, form}
+use Rattle.covering.specs.Record.{desk}
+use Rattle.cover.specs.Buffer.{heldIn}
+use Rattle.covering.proofs.RoundTrip.{desk-apart}
 use Rattle.cover.proofs.Growing.{dropped-sound, dropped-question}
 use Rattle.cover.proofs.formed.in_form.Statement.{statement}
 use Rattle.cover.proofs.formed.in_form.Tie as tie

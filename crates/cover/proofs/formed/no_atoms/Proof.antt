@@ -1,7 +1,8 @@
 -- `cover::formed::no_atoms` meets its contract: a count of 0 and then 255 alone is a record of no atoms.
 use borrow.Author.Needs.{needs}
 use mathlib.Core.Path.{refl}
-use Rattle.cover.specs.Record.{recordBytes, heldIn}
+use Rattle.covering.specs.Record.{recordBytes}
+use Rattle.cover.specs.Buffer.{heldIn}
 use Rattle.cover.proofs.formed.no_atoms.Statement.{statement}
 use Rattle.cover.proofs.formed.no_atoms.Tie as tie
 

@@ -6,9 +6,9 @@ use mathlib.Core.Path.{_≡_, refl, sym, _∙_, subst}
 use mathlib.Core.List.{List}
 use Prim.Native.Nat.{ℕ, _+_, _-_, _≤_}
 use lib.Dec.{T}
-use Rattle.cover.specs.Record.{desk, argsAt, atomAt, usedFirst}
+use Rattle.covering.specs.Record.{desk, argsAt, atomAt, usedFirst}
 use Rattle.cover.specs.Building.{allSeen, Numbered}
-use Rattle.cover.proofs.Bytes.{used-more, term-constant, atom-used}
+use Rattle.covering.proofs.Bytes.{used-more, term-constant, atom-used}
 use Rattle.cover.proofs.Renaming.{seen-end, seen-more, seen-done}
 use Rattle.cover.proofs.formed.number_atom.Statement.{statement}
 use Rattle.cover.proofs.formed.number_atom.Tie as tie

@@ -5,12 +5,12 @@ use native.Mathlib.Omega.{arith}
 use mathlib.Core.Path.{_≡_, sym, ap, _∙_}
 use mathlib.Core.List.{List, []}
 use Prim.Native.Nat.{ℕ, _+_, _*_, _≤_}
-use Rattle.cover.specs.Term.{terms}
-use Rattle.cover.specs.Form.{firsts}
-use Rattle.cover.specs.Record.{desk, atomsAt, questionOf}
-use Rattle.cover.specs.Held.{AtomsIn}
+use Rattle.covering.specs.Term.{terms}
+use Rattle.covering.specs.Form.{firsts}
+use Rattle.covering.specs.Record.{desk, atomsAt, questionOf}
+use Rattle.cover.specs.Buffer.{AtomsIn}
 use Rattle.cover.specs.Building.{allSeen, newNumber, Numbered}
-use Rattle.cover.proofs.Steps.{sound-in}
+use Rattle.cover.proofs.Within.{sound-in}
 use Rattle.cover.proofs.Leftward.{firsts-leftward}
 use Rattle.cover.proofs.Renaming.{numbered-none}
 use Rattle.cover.proofs.Passing.{in-next, terms-none, terms-next}

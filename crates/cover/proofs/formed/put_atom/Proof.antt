@@ -6,8 +6,10 @@ use mathlib.Core.Path.{_≡_, ap, _∙_}
 use Prim.Native.Nat.{_+_, _*_, _-_, _≤_}
 use lib.ListN.{getD, set, drop, length-set}
 use lib.Seq.{paste, paste-zero}
-use Rattle.cover.specs.Record.{desk}
-use Rattle.cover.proofs.Padded.{desk-apart, put-after, paste-next}
+use Rattle.covering.specs.Record.{desk}
+use Rattle.cover.proofs.Padded.{put-after}
+use Rattle.covering.proofs.Slices.{paste-next}
+use Rattle.covering.proofs.RoundTrip.{desk-apart}
 use Rattle.cover.proofs.AtomBytes.{atom-bytes}
 use Rattle.cover.proofs.formed.put_atom.Statement.{statement}
 use Rattle.cover.proofs.formed.put_atom.Tie as tie

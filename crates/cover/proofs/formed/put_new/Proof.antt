@@ -1,8 +1,9 @@
 -- `cover::formed::put_new` meets its contract: an atom that is there leaves the record as it is, any other is put.
 use borrow.Author.Needs.{needs}
 use mathlib.Core.Path.{sym, ap, _∙_}
-use Rattle.cover.specs.Term.{eqAtom}
-use Rattle.cover.specs.Record.{desk, heldIn}
+use Rattle.covering.specs.Term.{eqAtom}
+use Rattle.covering.specs.Record.{desk}
+use Rattle.cover.specs.Buffer.{heldIn}
 use Rattle.cover.proofs.Leftward.{added-old, added-new}
 use Rattle.cover.proofs.formed.put_new.Statement.{statement}
 use Rattle.cover.proofs.formed.put_new.Tie as tie

@@ -2,8 +2,9 @@
 use borrow.Author.Needs.{needs}
 use mathlib.Core.Path.{ap, _∙_}
 use mathlib.Core.List.{[], _∷_, _++_}
-use Rattle.cover.specs.Record.{desk, questionOf, heldIn}
-use Rattle.cover.proofs.Padded.{desk-apart}
+use Rattle.covering.specs.Record.{desk, questionOf}
+use Rattle.cover.specs.Buffer.{heldIn}
+use Rattle.covering.proofs.RoundTrip.{desk-apart}
 use Rattle.cover.proofs.AtomBytes.{bytes-in}
 use Rattle.cover.proofs.formed.put_on.Statement.{statement}
 use Rattle.cover.proofs.formed.put_on.Tie as tie

@@ -4,12 +4,12 @@ use borrow.Author.Needs.{needs}
 use native.Mathlib.Omega.{arith}
 use mathlib.Core.Path.{_≡_, refl, ap, _∙_}
 use mathlib.Core.List.{[], _∷_, _++_}
-use Rattle.cover.specs.Term.{Question, on-question}
-use Rattle.cover.specs.Form.{numbering}
-use Rattle.cover.specs.Record.{desk, atomAt, atomsAt, questionOf, heldIn}
-use Rattle.cover.specs.Held.{AtomsIn}
-use Rattle.cover.proofs.Steps.{sound-in}
-use Rattle.cover.proofs.Padded.{desk-apart}
+use Rattle.covering.specs.Term.{Question, on-question}
+use Rattle.covering.specs.Form.{numbering}
+use Rattle.covering.specs.Record.{desk, atomAt, atomsAt, questionOf}
+use Rattle.cover.specs.Buffer.{heldIn, AtomsIn}
+use Rattle.cover.proofs.Within.{sound-in}
+use Rattle.covering.proofs.RoundTrip.{desk-apart}
 use Rattle.cover.proofs.Passing.{in-next, split-done, split-in, split-next}
 use Rattle.cover.proofs.Growing.{Grows, grows-none, grows-room, grows-on, table-numbers, table-fits}
 use Rattle.cover.proofs.formed.renumbered.Statement.{statement}

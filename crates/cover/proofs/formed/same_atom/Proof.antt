@@ -5,8 +5,8 @@ use mathlib.Core.Path.{_≡_, sym}
 use Prim.Native.Nat.{ℕ, _+_, _-_, _≤_, _<_}
 use borrow.Author.Count.{below-more}
 use lib.ListN.{getD}
-use Rattle.cover.specs.Record.{desk}
-use Rattle.cover.proofs.Padded.{desk-apart}
+use Rattle.covering.specs.Record.{desk}
+use Rattle.covering.proofs.RoundTrip.{desk-apart}
 use Rattle.cover.proofs.AtomBytes.{same-bytes, other-bytes}
 use Rattle.cover.proofs.formed.same_atom.Statement.{statement}
 use Rattle.cover.proofs.formed.same_atom.Tie as tie

@@ -2,8 +2,8 @@
 use borrow.Author.Needs.{needs}
 use mathlib.Core.Path.{refl, sym, _∙_}
 use native.Mathlib.Omega.{arith}
-use Rattle.cover.specs.Record.{desk}
-use Rattle.cover.proofs.Bytes.{atom-used}
+use Rattle.covering.specs.Record.{desk}
+use Rattle.covering.proofs.Bytes.{atom-used}
 use Rattle.cover.proofs.Maps.{said-no, atoms-apart, atoms-meet}
 use Rattle.cover.proofs.place.place_atom.Statement.{statement}
 use Rattle.cover.proofs.place.place_atom.Tie as tie

@@ -6,10 +6,10 @@ use mathlib.Core.Path.{_≡_, refl, sym, _∙_}
 use Prim.Native.Nat.{_+_, _-_, _≤_}
 use borrow.Author.Tests.{not-true, not-false}
 use lib.Dec.{T}
-use Rattle.cover.specs.Search.{placeTerms}
-use Rattle.cover.specs.Record.{desk, argsAt, usedFirst}
+use Rattle.covering.specs.Search.{placeTerms}
+use Rattle.covering.specs.Record.{desk, argsAt, usedFirst}
 use Rattle.cover.specs.Held.{partOf, said}
-use Rattle.cover.proofs.Bytes.{used-more, term-constant}
+use Rattle.covering.proofs.Bytes.{used-more, term-constant}
 use Rattle.cover.proofs.Maps.{said-yes, said-no, places-end, places-short, places-clash, places-next}
 use Rattle.cover.proofs.Maps.{places-done}
 use Rattle.cover.proofs.place.place_terms.Statement.{statement}

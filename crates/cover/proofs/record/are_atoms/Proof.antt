@@ -5,8 +5,8 @@ use mathlib.Core.Path.{_≡_, refl, sym, _∙_}
 use Prim.Native.Nat.{_+_, _*_, _≤_}
 use lib.ListN.{length}
 use borrow.Author.Tests.{not-true, not-false}
-use Rattle.cover.specs.Record.{desk, areAtoms}
-use Rattle.cover.proofs.Bytes.{are-none, are-fails, are-passes}
+use Rattle.covering.specs.Record.{desk, areAtoms}
+use Rattle.covering.proofs.Bytes.{are-none, are-fails, are-passes}
 use Rattle.cover.proofs.record.are_atoms.Statement.{statement}
 use Rattle.cover.proofs.record.are_atoms.Tie as tie
 

@@ -3,8 +3,8 @@
 use native.Mathlib.Omega.{arith}
 use mathlib.Core.Path.{_≡_, refl, sym, _∙_}
 use Prim.Native.Nat.{_+_, _-_, _≤_}
-use Rattle.cover.specs.Record.{unused}
-use Rattle.cover.proofs.Bytes.{unused-passes, unused-fails, unused-none}
+use Rattle.covering.specs.Record.{unused}
+use Rattle.covering.proofs.Bytes.{unused-passes, unused-fails, unused-none}
 use Rattle.cover.proofs.record.are_unused.Statement.{statement}
 use Rattle.cover.proofs.record.are_unused.Tie as tie
 

@@ -2,8 +2,8 @@
 use borrow.Author.Needs.{needs}
 use mathlib.Core.Path.{sym, _∙_}
 use borrow.Author.Tests.{not-true, not-false}
-use Rattle.cover.specs.Record.{desk}
-use Rattle.cover.proofs.Bytes.{atom-relation, atom-empty, atom-places}
+use Rattle.covering.specs.Record.{desk}
+use Rattle.covering.proofs.Bytes.{atom-relation, atom-empty, atom-places}
 use Rattle.cover.proofs.record.is_atom.Statement.{statement}
 use Rattle.cover.proofs.record.is_atom.Tie as tie
 

@@ -2,8 +2,8 @@
 use borrow.Author.Needs.{needs}
 use native.Mathlib.Omega.{arith}
 use mathlib.Core.Path.{sym, _∙_}
-use Rattle.cover.specs.Record.{desk}
-use Rattle.cover.proofs.Bytes.{record-none, record-many, record-misfit, record-fits, record-empty}
+use Rattle.covering.specs.Record.{desk}
+use Rattle.covering.proofs.Bytes.{record-none, record-many, record-misfit, record-fits, record-empty}
 use Rattle.cover.proofs.record.is_record.Statement.{statement}
 use Rattle.cover.proofs.record.is_record.Tie as tie
 

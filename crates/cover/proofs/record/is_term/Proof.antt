@@ -1,6 +1,6 @@
 -- `cover::record::is_term` meets its contract: below 64, from 64 to 127, and from 128 on.
 use borrow.Author.Tests.{lt-ltb, le-ltb, lt-leb, le-leb}
-use Rattle.cover.specs.Record.{isTerm}
+use Rattle.covering.specs.Record.{isTerm}
 use Rattle.cover.proofs.record.is_term.Statement.{statement}
 use Rattle.cover.proofs.record.is_term.Tie as tie
 

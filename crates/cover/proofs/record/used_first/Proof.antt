@@ -6,8 +6,8 @@ use mathlib.Core.Path.{_≡_, refl, sym, _∙_}
 use Prim.Native.Nat.{_+_, _-_, _≤_}
 use borrow.Author.Tests.{not-true, not-false}
 use native.Mathlib.Nat.{add-zero}
-use Rattle.cover.specs.Record.{desk, usedFirst}
-use Rattle.cover.proofs.Bytes.{used-passes, used-stops, used-none}
+use Rattle.covering.specs.Record.{desk, usedFirst}
+use Rattle.covering.proofs.Bytes.{used-passes, used-stops, used-none}
 use Rattle.cover.proofs.record.used_first.Statement.{statement}
 use Rattle.cover.proofs.record.used_first.Tie as tie
 

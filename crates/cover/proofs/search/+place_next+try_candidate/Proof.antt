@@ -16,13 +16,14 @@ use Rattle.cover.proofs.search.+place_next+try_candidate.{statement}
 use Rattle.cover.proofs.search.+place_next+try_candidate.Tie.{close}
 use mathlib.Core.Logic.{⊎-elim}
 use borrow.Author.Tests.{not-true}
-use Rattle.cover.specs.Search.{findMap}
-use Rattle.cover.specs.Record.{desk}
-use Rattle.cover.proofs.Lists.{false→no}
-use Rattle.cover.proofs.Decides.{dead-end}
+use Rattle.covering.specs.Search.{findMap}
+use Rattle.covering.specs.Record.{desk}
+use Rattle.covering.proofs.Tests.{false→no}
+use Rattle.cover.proofs.Ahead.{dead-end}
 use Rattle.cover.proofs.Maps.{said-yes, said-no}
 use Rattle.cover.proofs.Steps.{search-done, search-next, tried-none, tried-hit, tried-miss, then-placed}
-use Rattle.cover.proofs.Steps.{then-not, in-first, in-rest}
+use Rattle.cover.proofs.Steps.{then-not}
+use Rattle.cover.proofs.Within.{in-first, in-rest}
 use Rattle.cover.proofs.place.place_atom.Reads as place-atom-reads
 use Rattle.cover.proofs.search.all_have.Reads as all-have-reads
 

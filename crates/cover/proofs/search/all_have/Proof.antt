@@ -3,10 +3,13 @@
 use native.Mathlib.Omega.{arith}
 use mathlib.Core.Path.{_≡_, refl, sym, _∙_}
 use borrow.Author.Tests.{not-true, not-false}
-use Rattle.cover.specs.Lists.{all}
-use Rattle.cover.specs.Record.{desk, atomsAt}
-use Rattle.cover.specs.Held.{partOf, AtomsIn, hasCandidate}
-use Rattle.cover.proofs.Steps.{sound-more, each-none, each-fails, each-passes}
+use Rattle.covering.specs.Lists.{all}
+use Rattle.covering.specs.Record.{desk, atomsAt}
+use Rattle.cover.specs.Held.{partOf}
+use Rattle.cover.specs.Buffer.{AtomsIn}
+use Rattle.cover.specs.Candidates.{hasCandidate}
+use Rattle.cover.proofs.Steps.{each-none, each-fails, each-passes}
+use Rattle.covering.proofs.Places.{sound-more}
 use Rattle.cover.proofs.search.all_have.Statement.{statement}
 use Rattle.cover.proofs.search.all_have.Tie as tie
 

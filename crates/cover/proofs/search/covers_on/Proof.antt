@@ -2,9 +2,10 @@
 use borrow.Author.Needs.{needs}
 use native.Mathlib.Omega.{arith}
 use mathlib.Core.Path.{_∙_}
-use Rattle.cover.specs.Record.{desk, questionOf}
+use Rattle.covering.specs.Record.{desk, questionOf}
 use Rattle.cover.proofs.Maps.{said-ok}
-use Rattle.cover.proofs.Steps.{sound-in, in-first, on-candidate}
+use Rattle.cover.proofs.Steps.{on-candidate}
+use Rattle.cover.proofs.Within.{sound-in, in-first}
 use Rattle.cover.proofs.search.covers_on.Statement.{statement}
 use Rattle.cover.proofs.search.covers_on.Tie as tie
 

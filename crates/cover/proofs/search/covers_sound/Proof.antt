@@ -1,8 +1,8 @@
 -- `cover::search::covers_sound` meets its contract: the search starts at the first atom, with no variable placed.
 use borrow.Author.Needs.{needs}
 use mathlib.Core.Path.{ap, _∙_}
-use Rattle.cover.specs.Search.{findMap, firstMap, covers}
-use Rattle.cover.specs.Record.{questionOf}
+use Rattle.covering.specs.Search.{findMap, firstMap, covers}
+use Rattle.covering.specs.Record.{questionOf}
 use Rattle.cover.proofs.Maps.{said-ok, part-nowhere}
 use Rattle.cover.proofs.search.covers_sound.Statement.{statement}
 use Rattle.cover.proofs.search.covers_sound.Tie as tie

@@ -4,8 +4,9 @@ use native.Mathlib.Omega.{arith}
 use mathlib.Core.Path.{_≡_, refl, sym, _∙_}
 use Prim.Native.Nat.{_+_, _*_, _≤_}
 use lib.ListN.{length}
-use Rattle.cover.specs.Record.{desk, atomAt, atomsAt}
-use Rattle.cover.specs.Held.{partOf, hasCandidate}
+use Rattle.covering.specs.Record.{desk, atomAt, atomsAt}
+use Rattle.cover.specs.Held.{partOf}
+use Rattle.cover.specs.Candidates.{hasCandidate}
 use Rattle.cover.proofs.Maps.{said-yes, said-no}
 use Rattle.cover.proofs.Steps.{candidate-none, candidate-hit, candidate-miss}
 use Rattle.cover.proofs.search.has_candidate.Statement.{statement}

@@ -4,13 +4,13 @@ use native.Mathlib.Omega.{arith}
 use mathlib.Core.Path.{_≡_}
 use Prim.Native.Nat.{ℕ, _≤_}
 use lib.ListN.{length}
-use Rattle.cover.specs.Term.{Question}
-use Rattle.cover.specs.Search.{covers}
-use Rattle.cover.specs.Record.{desk, questionOf, Fits}
+use Rattle.covering.specs.Term.{Question}
+use Rattle.covering.specs.Search.{covers}
+use Rattle.covering.specs.Record.{desk, questionOf, Fits}
 use Rattle.exploration.specs.Union.{membersFrom, firstAt}
 use Rattle.explore.specs.Held.{beforeCovering}
-use Rattle.cover.proofs.Lengths.{question-count}
-use Rattle.cover.proofs.Begun.{begun-long}
+use Rattle.covering.proofs.Lengths.{question-count}
+use Rattle.covering.proofs.Begun.{begun-long}
 use Rattle.explore.proofs.Records.{record-fits}
 use Rattle.explore.proofs.Array.{stands-all}
 use Rattle.explore.proofs.Fates.{fate-dropped, fate-long, fate-full, room-left, fate-appended}

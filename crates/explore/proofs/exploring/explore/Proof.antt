@@ -6,17 +6,16 @@ use mathlib.Core.Path.{_≡_, refl, sym, ap, _∙_, subst}
 use mathlib.Core.Logic.{_⊎_, ⊎-elim}
 use mathlib.Core.Bool.{Bool}
 use mathlib.Core.List.{List}
-use Prim.Native.Nat.{ℕ, _+_, _-_, _≤_, _<_}
-use lib.ListN.{length, getD, drop}
-use Rattle.cover.specs.Lists.{_∈_}
-use Rattle.cover.specs.Term.{Question}
-use Rattle.cover.specs.Search.{covers}
-use Rattle.cover.specs.Record.{desk, questionOf, Sound}
-use Rattle.cover.proofs.Lists.{not-true, not-false}
-use Rattle.book.specs.Rule.{Rule}
-use Rattle.book.specs.Book.{bookOf}
+use Prim.Native.Nat.{ℕ, _-_}
+use lib.ListN.{length, drop}
+use Rattle.covering.specs.Lists.{_∈_}
+use Rattle.covering.specs.Term.{Question}
+use Rattle.covering.specs.Search.{covers}
+use Rattle.covering.specs.Record.{desk, questionOf, Sound}
+use Rattle.covering.proofs.Tests.{not-true, not-false}
+use Rattle.covering.specs.Rule.{Rule}
+use Rattle.reading.specs.Book.{bookOf}
 use Rattle.unify.specs.Held.{QuestionIn}
-use Rattle.explore.specs.declared.Extent.{Extent}
 use Rattle.explore.specs.declared.Fate.{Fate}
 use Rattle.explore.specs.declared.Fate.the-variants.{Dropped, Appended, Refused}
 use Rattle.exploration.specs.Run.{allRewritings}

@@ -2,15 +2,11 @@
 -- of members left.
 use borrow.Author.Needs.{needs}
 use native.Mathlib.Omega.{arith}
-use mathlib.Core.Path.{_≡_, refl, sym, ap, _∙_, subst}
 use mathlib.Core.Logic.{_⊎_, ⊎-elim}
-use mathlib.Core.Bool.{Bool, true, false, not}
-use mathlib.Core.List.{List}
-use Prim.Native.Nat.{ℕ, _+_, _*_, _-_, _≤_, _<_}
-use lib.ListN.{length, getD, take, drop}
-use Rattle.cover.specs.Search.{covers}
-use Rattle.cover.specs.Record.{desk, questionOf, Sound}
-use Rattle.cover.proofs.Lists.{not-true, not-false}
+use Prim.Native.Nat.{_+_, _*_, _-_, _≤_}
+use lib.ListN.{length, getD}
+use Rattle.covering.specs.Record.{desk, questionOf}
+use Rattle.covering.proofs.Tests.{not-true, not-false}
 use Rattle.explore.proofs.Removal.{Midway, midway-start, midway-done, turn-gone, turn-kept, within, short}
 use Rattle.explore.proofs.Removal.{sound-part, midway-as}
 use Rattle.explore.proofs.removing.keep_uncovered.Statement.{statement}

@@ -8,10 +8,10 @@ use mathlib.Core.List.{List}
 use Prim.Native.Nat.{ℕ, _+_, _*_, _-_, _≤_}
 use lib.ListN.{length, set, length-set, getD, replicate}
 use lib.Seq.{paste, paste-zero}
-use Rattle.cover.specs.Record.{desk}
-use Rattle.cover.proofs.Padded.{desk-apart}
-use Rattle.cover.proofs.Begun.{begun-held}
-use Rattle.explore.proofs.Pasting.{paste-more}
+use Rattle.covering.specs.Record.{desk}
+use Rattle.covering.proofs.RoundTrip.{desk-apart}
+use Rattle.cover.proofs.Padded.{begun-held}
+use Rattle.covering.proofs.Slices.{paste-more}
 use Rattle.explore.proofs.taking_up.copy_record.Statement.{statement}
 use Rattle.explore.proofs.taking_up.copy_record.Tie as tie
 

@@ -2,17 +2,17 @@
 -- from the rule at hand on. The measure is the number of rules left.
 use borrow.Author.Needs.{needs}
 use native.Mathlib.Omega.{arith}
-use mathlib.Core.Path.{_≡_, refl, sym, ap, _∙_, subst}
+use mathlib.Core.Path.{_≡_, sym, ap, _∙_}
 use mathlib.Core.List.{List}
-use Prim.Native.Nat.{ℕ, _+_, _-_, _≤_, _<_}
-use lib.ListN.{length, getD, drop}
-use Rattle.cover.specs.Term.{Question}
-use Rattle.cover.specs.Record.{desk, questionOf}
-use Rattle.book.specs.Header.{rules as rulesOf}
-use Rattle.book.specs.Book.{ruleAt, rulesFrom, ruleStart, bookOf}
-use Rattle.book.proofs.Reading.{rules-left}
+use Prim.Native.Nat.{ℕ, _-_, _≤_, _<_}
+use lib.ListN.{drop}
+use Rattle.covering.specs.Term.{Question}
+use Rattle.covering.specs.Record.{desk, questionOf}
+use Rattle.reading.specs.Header.{rules as rulesOf}
+use Rattle.reading.specs.Book.{ruleAt, rulesFrom, ruleStart, bookOf}
+use Rattle.reading.proofs.Reading.{rules-left}
 use Rattle.unify.specs.Held.{answered}
-use Rattle.unify.specs.Step.{next}
+use Rattle.unification.specs.Step.{next}
 use Rattle.exploration.specs.Run.{apart}
 use Rattle.explore.specs.Taking.{nextAmong, taken}
 use Rattle.explore.proofs.Among.{among-none, among-found, among-later, rules-few}

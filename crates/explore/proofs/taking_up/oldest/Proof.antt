@@ -2,14 +2,16 @@
 -- The measure is the number of explored members left.
 use borrow.Author.Needs.{needs}
 use native.Mathlib.Omega.{arith}
-use mathlib.Core.Path.{_≡_, refl, sym, ap, _∙_, subst}
+use mathlib.Core.Path.{_≡_, sym, ap, _∙_, subst}
 use mathlib.Core.List.{List}
-use Prim.Native.Nat.{ℕ, _+_, _*_, _-_, _≤_, _<_}
-use lib.ListN.{length, getD, take, drop}
-use Rattle.cover.specs.Record.{desk, questionOf, heldIn, Sound}
-use Rattle.cover.specs.Lists.{head}
+use Prim.Native.Nat.{ℕ, _+_, _-_, _≤_, _<_}
+use lib.ListN.{drop}
+use Rattle.covering.specs.Record.{desk, questionOf, Sound}
+use Rattle.cover.specs.Buffer.{heldIn}
+use Rattle.covering.specs.Lists.{head}
 use Rattle.exploration.specs.Union.{membersFrom, firstAt}
-use Rattle.explore.proofs.Finding.{Here, part-is}
+use Rattle.exploration.proofs.Standing.{Here}
+use Rattle.covering.proofs.Slices.{part-is}
 use Rattle.explore.proofs.Array.{stands-all}
 use Rattle.explore.proofs.Among.{From, from-first, from-here, from-next, from-head}
 use Rattle.explore.proofs.taking_up.oldest.Statement.{statement}

@@ -6,9 +6,9 @@ use mathlib.Core.Path.{_≡_, sym, _∙_}
 use mathlib.Core.List.{List}
 use Prim.Native.Nat.{ℕ, _-_, _<_}
 use lib.ListN.{length}
-use Rattle.book.specs.Book.{bookOf}
-use Rattle.book.proofs.Sound.{sound-long}
-use Rattle.book.proofs.Fits.{allowed-few}
+use Rattle.reading.specs.Book.{bookOf}
+use Rattle.reading.proofs.Sound.{sound-long}
+use Rattle.reading.proofs.Fits.{allowed-few}
 use Rattle.explore.proofs.Among.{rules-read}
 use Rattle.explore.proofs.Running.{Running, first-sound, first-fits, first-running, running-next}
 use Rattle.explore.proofs.Running.{outcome-complete, outcome-ten, outcome-refused, taken-working, member-of, allowed-read}

@@ -1,8 +1,7 @@
 -- `explore::whole_run::run` meets its contract: refusals 1 and 2 to 7 first, then the run.
 use borrow.Author.Needs.{needs}
-use native.Mathlib.Omega.{arith}
-use mathlib.Core.Path.{_≡_, sym, ap, _∙_, subst}
-use Rattle.book.specs.declared.Refusal.{Refusal}
+use mathlib.Core.Path.{sym, ap, _∙_, subst}
+use Rattle.reading.specs.declared.Refusal.{Refusal}
 use Rattle.exploration.specs.Answer.{Answers}
 use Rattle.exploration.proofs.Returns.{returns-small, returns-unsound}
 use Rattle.explore.proofs.whole_run.run.Statement.{statement}

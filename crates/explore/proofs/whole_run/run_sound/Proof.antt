@@ -1,8 +1,8 @@
 -- `explore::whole_run::run_sound` meets its contract: complete, the array with its header filled is the union.
 use borrow.Author.Needs.{needs}
 use native.Mathlib.Omega.{arith}
-use mathlib.Core.Path.{_≡_, sym, ap, _∙_, subst}
-use Rattle.explore.specs.declared.Ran.the-variants.{Complete, Refused}
+use mathlib.Core.Path.{subst}
+use Rattle.explore.specs.declared.Ran.the-variants.{Complete}
 use Rattle.exploration.specs.Answer.{outcomeOf}
 use Rattle.explore.specs.Held.{RanIs}
 use Rattle.explore.proofs.Array.{len-most}

@@ -7,10 +7,10 @@ use mathlib.Core.List.{List, _++_, append-assoc}
 use Prim.Native.Nat.{ℕ, _+_, _*_, _-_, _≤_}
 use lib.ListN.{length, set, length-set, getD, take, drop}
 use lib.Seq.{paste, paste-zero}
-use Rattle.cover.specs.Record.{desk, questionOf, recordBytes}
-use Rattle.cover.proofs.Padded.{desk-apart}
-use Rattle.cover.proofs.Begun.{begun-long, begun-record}
-use Rattle.explore.proofs.Pasting.{paste-more}
+use Rattle.covering.specs.Record.{desk, questionOf, recordBytes}
+use Rattle.covering.proofs.RoundTrip.{desk-apart}
+use Rattle.covering.proofs.Begun.{begun-long, begun-record}
+use Rattle.covering.proofs.Slices.{paste-more}
 use Rattle.explore.proofs.working.append.Statement.{statement}
 use Rattle.explore.proofs.working.append.Tie as tie
 

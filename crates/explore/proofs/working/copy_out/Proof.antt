@@ -4,10 +4,10 @@ use borrow.Author.Needs.{needs}
 use native.Mathlib.Omega.{arith}
 use native.Mathlib.Nat.{zero-add}
 use mathlib.Core.Path.{_≡_, refl, ap, _∙_}
-use Prim.Native.Nat.{_+_, _-_, _≤_}
+use Prim.Native.Nat.{_-_, _≤_}
 use lib.ListN.{length, set, length-set, getD}
 use lib.Seq.{paste, paste-zero}
-use Rattle.explore.proofs.Pasting.{paste-more}
+use Rattle.covering.proofs.Slices.{paste-more}
 use Rattle.explore.proofs.working.copy_out.Statement.{statement}
 use Rattle.explore.proofs.working.copy_out.Tie as tie
 

@@ -3,11 +3,11 @@
 use borrow.Author.Needs.{needs}
 use native.Mathlib.Omega.{arith}
 use mathlib.Core.Path.{_≡_, refl, sym, ap, ap₂, _∙_}
-use mathlib.Core.List.{List, _++_, append-assoc}
+use mathlib.Core.List.{List, append-assoc}
 use Prim.Native.Nat.{ℕ, _+_, _-_, _≤_, _<_}
 use lib.ListN.{length, set, length-set, length-drop, getD, take, drop}
 use lib.Seq.{paste, paste-zero, getD-drop}
-use Rattle.explore.proofs.Pasting.{paste-more, paste-past}
+use Rattle.covering.proofs.Slices.{paste-more, paste-past}
 use Rattle.explore.proofs.working.move_down.Statement.{statement}
 use Rattle.explore.proofs.working.move_down.Tie as tie
 

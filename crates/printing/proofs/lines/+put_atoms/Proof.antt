@@ -3,8 +3,8 @@
 use borrow.Author.Needs.{needs}
 use native.Mathlib.Omega.{arith}
 use Prim.Native.Nat.{ℕ, _<_}
-use Rattle.cover.specs.Record.{desk}
-use Rattle.cover.proofs.Steps.{sound-more}
+use Rattle.covering.specs.Record.{desk}
+use Rattle.covering.proofs.Places.{sound-more}
 use Rattle.printing.proofs.Putting.{put-none, put-as, then}
 use Rattle.printing.proofs.Texts.{atoms-end, atoms-next, atoms-length}
 use borrow.Fn.Kinds.{In}

@@ -2,8 +2,8 @@
 use borrow.Author.Needs.{needs}
 use native.Mathlib.Omega.{arith}
 use lib.ListN.{getD}
-use Rattle.cover.specs.Record.{desk}
-use Rattle.cover.proofs.Steps.{sound-more}
+use Rattle.covering.specs.Record.{desk}
+use Rattle.covering.proofs.Places.{sound-more}
 use Rattle.printing.proofs.Putting.{put-as, then}
 use Rattle.printing.proofs.Texts.{member-text, member-length}
 use Rattle.printing.proofs.lines.put_member.Statement.{statement}

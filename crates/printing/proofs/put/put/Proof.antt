@@ -7,7 +7,7 @@ use mathlib.Core.List.{List, _++_, append-assoc}
 use Prim.Native.Nat.{ℕ, _+_, _-_, _≤_}
 use lib.ListN.{length, set, length-set, getD, take, drop}
 use lib.Seq.{paste, paste-zero, take-length}
-use Rattle.explore.proofs.Pasting.{paste-more}
+use Rattle.covering.proofs.Slices.{paste-more}
 use Rattle.printing.proofs.put.put.Statement.{statement}
 use Rattle.printing.proofs.put.put.Tie as tie
 

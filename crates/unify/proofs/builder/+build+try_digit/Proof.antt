@@ -18,9 +18,9 @@ use Rattle.unify.proofs.builder.+build+try_digit.Tie.{close}
 use mathlib.Core.Bool.{Bool}
 use mathlib.Core.Option.{Option}
 use borrow.Author.Tests.{not-true, not-false}
-use Rattle.cover.specs.Lists.{firstOf, numbers}
-use Rattle.cover.specs.Record.{desk, atomAt, atomsAt, questionOf}
-use Rattle.cover.specs.Term.{Question}
+use Rattle.covering.specs.Lists.{firstOf, numbers}
+use Rattle.covering.specs.Record.{desk, atomAt, atomsAt, questionOf}
+use Rattle.covering.specs.Term.{Question}
 use Rattle.book.specs.declared.Parts.{Parts}
 use Rattle.unify.specs.Build.{firstAt}
 use Rattle.unify.specs.Table.{tableBuilder}

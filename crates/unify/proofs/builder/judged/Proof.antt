@@ -7,11 +7,11 @@ use Prim.Native.Nat.{ℕ}
 use Rattle.unify.specs.declared.Found.{Found}
 use mathlib.Core.Path.{sym, ap, _∙_}
 use borrow.Author.Tests.{not-true, not-false}
-use Rattle.cover.specs.Record.{questionOf, desk}
+use Rattle.covering.specs.Record.{questionOf, desk}
 use Rattle.unify.specs.Held.{answered, ruleOf, classesOf}
 use Rattle.unify.proofs.Build.{since-early}
 use Rattle.unify.proofs.Prefixes.{judged-no, judged-yes}
-use Rattle.unify.specs.Step.{move, judge}
+use Rattle.unification.specs.Step.{move, judge}
 use Rattle.unify.specs.Table.{tabled}
 use Rattle.unify.proofs.builder.judged.Statement.{statement}
 use Rattle.unify.proofs.builder.judged.Tie as tie

@@ -3,7 +3,7 @@
 use borrow.Author.Needs.{needs}
 use mathlib.Core.Path.{refl, sym, ap, _∙_}
 use mathlib.Core.Option.{some}
-use Rattle.cover.specs.Record.{termOf}
+use Rattle.covering.specs.Record.{termOf}
 use Rattle.unify.specs.Table.{joinTable}
 use Rattle.unify.specs.Held.{classesOf}
 use Rattle.unify.proofs.Bytes.{said-yes, said-no, join-self, join-variable, join-constant, join-clash}

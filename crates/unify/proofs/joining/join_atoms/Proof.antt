@@ -3,8 +3,8 @@
 use borrow.Author.Needs.{needs}
 use native.Mathlib.Omega.{arith}
 use mathlib.Core.Path.{refl, sym, _∙_}
-use Rattle.cover.specs.Record.{desk}
-use Rattle.cover.proofs.Bytes.{atom-used}
+use Rattle.covering.specs.Record.{desk}
+use Rattle.covering.proofs.Bytes.{atom-used}
 use Rattle.unify.specs.Held.{inBook}
 use Rattle.unify.proofs.Bytes.{said-no}
 use Rattle.unify.proofs.Joins.{pairs-apart, pairs-meet}

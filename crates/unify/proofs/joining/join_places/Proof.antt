@@ -10,11 +10,11 @@ use mathlib.Core.List.{map}
 use borrow.Author.Tests.{not-true, not-false}
 use lib.Dec.{T}
 use lib.ListN.{getD}
-use Rattle.cover.specs.Term.{on-term}
-use Rattle.cover.specs.Record.{termOf, argsAt, usedFirst}
-use Rattle.cover.proofs.Bytes.{used-more, term-constant}
-use Rattle.unify.specs.Choice.{placePairs}
-use Rattle.unify.specs.Step.{up}
+use Rattle.covering.specs.Term.{on-term}
+use Rattle.covering.specs.Record.{termOf, argsAt, usedFirst}
+use Rattle.covering.proofs.Bytes.{used-more, term-constant}
+use Rattle.unification.specs.Choice.{placePairs}
+use Rattle.unification.specs.Step.{up}
 use Rattle.unify.specs.Table.{look, joinTable, unifyTable}
 use Rattle.unify.specs.Held.{inBook, classesOf, said}
 use Rattle.unify.proofs.Bytes.{said-yes, said-no}

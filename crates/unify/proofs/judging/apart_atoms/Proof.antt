@@ -3,13 +3,13 @@
 use native.Mathlib.Omega.{arith}
 use mathlib.Core.Path.{_≡_, refl, sym, _∙_}
 use borrow.Author.Tests.{not-true, not-false}
-use Rattle.cover.specs.Lists.{all}
-use Rattle.cover.specs.Term.{on-question, terms}
-use Rattle.cover.specs.Record.{desk, atomsAt}
-use Rattle.cover.specs.Held.{AtomsIn}
-use Rattle.cover.proofs.Bytes.{atom-used}
-use Rattle.cover.proofs.Steps.{sound-more}
-use Rattle.unify.specs.Step.{up}
+use Rattle.covering.specs.Lists.{all}
+use Rattle.covering.specs.Term.{on-question, terms}
+use Rattle.covering.specs.Record.{desk, atomsAt}
+use Rattle.cover.specs.Buffer.{AtomsIn}
+use Rattle.covering.proofs.Bytes.{atom-used}
+use Rattle.covering.proofs.Places.{sound-more}
+use Rattle.unification.specs.Step.{up}
 use Rattle.unify.specs.Held.{inBook}
 use Rattle.unify.proofs.EachTerm.{each-term-none, each-term-fails, each-term-passes}
 use Rattle.unify.proofs.Judged.{apartByte}

@@ -8,11 +8,11 @@ use mathlib.Core.List.{map}
 use Prim.Native.Nat.{_+_, _-_, _≤_}
 use borrow.Author.Tests.{not-true, not-false}
 use lib.Dec.{T}
-use Rattle.cover.specs.Lists.{all}
-use Rattle.cover.specs.Term.{on-term}
-use Rattle.cover.specs.Record.{argsAt, usedFirst}
-use Rattle.cover.proofs.Bytes.{used-more, term-constant}
-use Rattle.unify.specs.Step.{up}
+use Rattle.covering.specs.Lists.{all}
+use Rattle.covering.specs.Term.{on-term}
+use Rattle.covering.specs.Record.{argsAt, usedFirst}
+use Rattle.covering.proofs.Bytes.{used-more, term-constant}
+use Rattle.unification.specs.Step.{up}
 use Rattle.unify.specs.Held.{inBook}
 use Rattle.unify.proofs.EachTerm.{each-place-end, each-place-fails, each-place-passes, each-place-none}
 use Rattle.unify.proofs.Judged.{apartByte}

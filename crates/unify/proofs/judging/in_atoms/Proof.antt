@@ -4,9 +4,9 @@ use native.Mathlib.Omega.{arith}
 use mathlib.Core.Path.{_≡_, refl, sym, _∙_}
 use Prim.Native.Nat.{_+_, _*_, _≤_}
 use lib.ListN.{length}
-use Rattle.cover.specs.Term.{terms}
-use Rattle.cover.specs.Record.{desk, termOf, atomsAt}
-use Rattle.unify.specs.Step.{memTerm}
+use Rattle.covering.specs.Term.{terms}
+use Rattle.covering.specs.Record.{desk, termOf, atomsAt}
+use Rattle.unification.specs.Step.{memTerm}
 use Rattle.unify.proofs.EachTerm.{some-term-none, some-term-hit, some-term-miss}
 use Rattle.unify.proofs.judging.in_atoms.Statement.{statement}
 use Rattle.unify.proofs.judging.in_atoms.Tie as tie

@@ -5,9 +5,9 @@ use native.Mathlib.Nat.{add-zero}
 use mathlib.Core.Path.{_≡_, refl, sym, _∙_}
 use Prim.Native.Nat.{_+_, _-_, _≤_}
 use borrow.Author.Tests.{eq-eqb, ne-eqb}
-use Rattle.cover.specs.Record.{termOf, argsAt}
-use Rattle.cover.proofs.Bytes.{term-same}
-use Rattle.unify.specs.Step.{memTerm}
+use Rattle.covering.specs.Record.{termOf, argsAt}
+use Rattle.covering.proofs.Bytes.{term-same}
+use Rattle.unification.specs.Step.{memTerm}
 use Rattle.unify.proofs.EachTerm.{some-place-end, some-place-hit, some-place-miss, some-place-none}
 use Rattle.unify.proofs.judging.in_places.Statement.{statement}
 use Rattle.unify.proofs.judging.in_places.Tie as tie

@@ -3,7 +3,7 @@
 -- moved body.
 use borrow.Author.Needs.{needs}
 use mathlib.Core.Path.{sym}
-use Rattle.cover.specs.Record.{termOf}
+use Rattle.covering.specs.Record.{termOf}
 use Rattle.unify.specs.Table.{tabled}
 use Rattle.unify.specs.Held.{ruleIn, classesOf}
 use Rattle.unify.proofs.Judged.{is-var, is-con, leftIn, allowed-constant, allowed-frontier, allowed-unknown}

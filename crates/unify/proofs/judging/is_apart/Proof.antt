@@ -1,7 +1,7 @@
 -- `unify::judging::is_apart` meets its contract: terms are the same exactly where their bytes are.
 use borrow.Author.Needs.{needs}
 use mathlib.Core.Path.{sym, _∙_}
-use Rattle.cover.specs.Record.{termOf}
+use Rattle.covering.specs.Record.{termOf}
 use Rattle.unify.specs.Table.{tabled}
 use Rattle.unify.specs.Held.{classesOf}
 use Rattle.unify.proofs.Judged.{tabled-look, apart-itself, apart-class}

@@ -3,9 +3,9 @@
 use native.Mathlib.Omega.{arith}
 use mathlib.Core.Path.{_≡_, refl, sym, ap, _∙_}
 use mathlib.Core.List.{_++_}
-use Rattle.cover.specs.Term.{on-question}
-use Rattle.cover.specs.Record.{desk, atomsAt, questionOf, heldIn}
-use Rattle.cover.specs.Held.{AtomsIn}
+use Rattle.covering.specs.Term.{on-question}
+use Rattle.covering.specs.Record.{desk, atomsAt, questionOf}
+use Rattle.cover.specs.Buffer.{heldIn, AtomsIn}
 use Rattle.cover.specs.Building.{subOf}
 use Rattle.unify.specs.Held.{inBook, Filling}
 use lib.ListN.{length}

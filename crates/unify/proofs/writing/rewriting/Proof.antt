@@ -4,8 +4,9 @@ use borrow.Author.Needs.{needs}
 use native.Mathlib.Omega.{arith}
 use lib.ListN.{length}
 use mathlib.Core.Path.{_≡_, ap, _∙_}
-use Rattle.cover.specs.Form.{form}
-use Rattle.cover.specs.Record.{desk, heldIn}
+use Rattle.covering.specs.Form.{form}
+use Rattle.covering.specs.Record.{desk}
+use Rattle.cover.specs.Buffer.{heldIn}
 use Rattle.unify.proofs.Written.{filling-none, left-filling, whole-sound, whole-question, upper-fits}
 use Rattle.unify.proofs.writing.rewriting.Statement.{statement}
 use Rattle.unify.proofs.writing.rewriting.Tie as tie

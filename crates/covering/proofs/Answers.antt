@@ -1,0 +1,84 @@
+-- Laws of the desk's answers: one for each way through the code, and that each answer is determined. Assumes nothing.
+use mathlib.Core.Path.{_≡_, refl}
+use mathlib.Core.Bool.{true, false, cond}
+use mathlib.Core.Logic.{_⊎_, inl, inr}
+use mathlib.Core.List.{List}
+use mathlib.Core.Option.{Option, none, some}
+use Prim.Native.Nat.{ℕ}
+use native.Mathlib.Omega.{arith}
+use Rattle.covering.specs.Term.{Question}
+use Rattle.covering.specs.Search.{covers}
+use Rattle.covering.specs.Record.{Layout, questionOf, isRecord, recordOf}
+use Rattle.covering.specs.Desk.{answer, coversAnswer, the-first, the-second, neither, which}
+use Rattle.covering.proofs.Tests.{either}
+
+module _ (L : Layout) (B : List ℕ) where
+  pub record-of : isRecord L B ≡ true → recordOf L B ≡ some (questionOf L B)
+  unfolding recordOf
+  record-of e = rw e
+
+  pub no-record : isRecord L B ≡ false → recordOf L B ≡ none
+  unfolding recordOf
+  no-record e = rw e
+
+module _ (L : Layout) (A B : List ℕ) where
+  pub answer-2 : isRecord L A ≡ false → coversAnswer L A B ≡ 2
+  unfolding coversAnswer
+  answer-2 e = rw (no-record L A e)
+
+  pub answer-3 : isRecord L A ≡ true → isRecord L B ≡ false → coversAnswer L A B ≡ 3
+  unfolding coversAnswer
+  answer-3 e f = rw (record-of L A e, no-record L B f)
+
+  pub answer-covers : isRecord L A ≡ true → isRecord L B ≡ true
+      → coversAnswer L A B ≡ cond (covers (questionOf L A) (questionOf L B)) 1 0
+  unfolding coversAnswer
+  answer-covers e f = rw (record-of L A e, record-of L B f)
+
+-- which to keep, from the two answers
+first-kept : (x y : Option Question) → answer x y ≡ 1 → which x y ≡ the-first
+first-kept none y e = absurd (omega arith)
+first-kept (some A) none e = absurd (omega arith)
+first-kept (some A) (some B) e = go (either (covers A B))
+  where
+    go : (covers A B ≡ true) ⊎ (covers A B ≡ false) → which (some A) (some B) ≡ the-first
+    go (inl t) = rw t
+    go (inr f) = let z : _≡_ {A = ℕ} 0 1 = rw f at e in absurd (omega arith)
+
+second-kept : (x y : Option Question) → (answer x y ≡ 1 → ⊥) → answer y x ≡ 1 → which x y ≡ the-second
+second-kept none none n e = absurd (omega arith)
+second-kept none (some B) n e = absurd (omega arith)
+second-kept (some A) none n e = absurd (omega arith)
+second-kept (some A) (some B) n e = go (either (covers A B)) (either (covers B A))
+  where
+    go : (covers A B ≡ true) ⊎ (covers A B ≡ false) → (covers B A ≡ true) ⊎ (covers B A ≡ false)
+        → which (some A) (some B) ≡ the-second
+    go (inl t) u = absurd (n (rw t))
+    go (inr f) (inl u) = rw (f, u)
+    go (inr f) (inr u) = let z : _≡_ {A = ℕ} 0 1 = rw u at e in absurd (omega arith)
+
+none-kept : (x y : Option Question) → (answer x y ≡ 1 → ⊥) → (answer y x ≡ 1 → ⊥) → which x y ≡ neither
+none-kept none y n m = refl
+none-kept (some A) none n m = refl
+none-kept (some A) (some B) n m = go (either (covers A B)) (either (covers B A))
+  where
+    go : (covers A B ≡ true) ⊎ (covers A B ≡ false) → (covers B A ≡ true) ⊎ (covers B A ≡ false)
+        → which (some A) (some B) ≡ neither
+    go (inl t) u = absurd (n (rw t))
+    go (inr f) (inl u) = absurd (m (rw u))
+    go (inr f) (inr u) = rw (f, u)
+
+module _ (L : Layout) (A B : List ℕ) where
+  pub keeps-first : coversAnswer L A B ≡ 1 → which (recordOf L A) (recordOf L B) ≡ the-first
+  unfolding coversAnswer
+  keeps-first e = first-kept (recordOf L A) (recordOf L B) e
+
+  pub keeps-second : (coversAnswer L A B ≡ 1 → ⊥) → coversAnswer L B A ≡ 1
+      → which (recordOf L A) (recordOf L B) ≡ the-second
+  unfolding coversAnswer
+  keeps-second n e = second-kept (recordOf L A) (recordOf L B) n e
+
+  pub keeps-neither : (coversAnswer L A B ≡ 1 → ⊥) → (coversAnswer L B A ≡ 1 → ⊥)
+      → which (recordOf L A) (recordOf L B) ≡ neither
+  unfolding coversAnswer
+  keeps-neither n m = none-kept (recordOf L A) (recordOf L B) n m

@@ -1,0 +1,190 @@
+-- Laws of the record's bytes, read one place at a time. Assumes nothing.
+use mathlib.Core.Path.{_≡_, sym, _∙_, ap, subst}
+use mathlib.Core.Bool.{true, false, _&&_}
+use mathlib.Core.Logic.{_⊎_, inl, inr}
+use mathlib.Core.List.{List, [], _∷_}
+use Prim.Native.Nat.{ℕ, suc, _+_, _*_, _-_, _≤_, _<_}
+use native.Mathlib.Omega.{arith}
+use borrow.Author.Tests.{ltb-true, ltb-false, eqb-true, eqb-false, lt-ltb, le-ltb, eq-eqb, ne-eqb, le-leb, lt-leb}
+use lib.Dec.{T, eqb, ltb, leb, ltb→lt, leb→le, eqb→eq}
+use lib.ListN.{length, getD, List·getD-eq-default}
+use Rattle.covering.specs.Term.{var, con, eqTerm}
+use Rattle.covering.specs.Record.{Layout, size, termOf, argsAt, isTerm, unused, usedFirst, isAtom, areAtoms}
+use Rattle.covering.specs.Record.{isRecord, Sound}
+use Rattle.covering.proofs.Tests.{either, fst-of, snd-of, or-cases, true→T}
+
+pub suc-sub-one : (n : ℕ) → suc n - 1 ≡ n
+suc-sub-one n = omega arith
+
+-- a byte as a term
+pub term-var : (b : ℕ) → b < 128 → termOf b ≡ var b
+unfolding termOf
+term-var b h = rw (lt-ltb b 128 h)
+
+pub term-con : (b : ℕ) → 128 ≤ b → termOf b ≡ con (b - 128)
+unfolding termOf
+term-con b h = rw (le-ltb b 128 h)
+
+-- two bytes are the same term only where they are the same byte
+pub term-same : (a b : ℕ) → eqTerm (termOf a) (termOf b) ≡ eqb a b
+unfolding termOf
+term-same a b = go (either (ltb a 128)) (either (ltb b 128))
+  where
+    go : (ltb a 128 ≡ true) ⊎ (ltb a 128 ≡ false) → (ltb b 128 ≡ true) ⊎ (ltb b 128 ≡ false)
+        → eqTerm (termOf a) (termOf b) ≡ eqb a b
+    go (inl p) (inl q) = rw (p, q)
+    go (inl p) (inr q) =
+        let lo = ltb-true a 128 p in
+        let hi = ltb-false b 128 q in
+        rw (p, q) (sym (ne-eqb a b (λ e. omega arith)))
+    go (inr p) (inl q) =
+        let hi = ltb-false a 128 p in
+        let lo = ltb-true b 128 q in
+        rw (p, q) (sym (ne-eqb a b (λ e. omega arith)))
+    go (inr p) (inr q) = rw (p, q) (shift (ltb-false a 128 p) (ltb-false b 128 q) (either (eqb a b)))
+      where
+        shift : 128 ≤ a → 128 ≤ b → (eqb a b ≡ true) ⊎ (eqb a b ≡ false) → eqb (a - 128) (b - 128) ≡ eqb a b
+        shift x y (inl e) = eq-eqb (a - 128) (b - 128) (ap (λ n. n - 128) (eqb-true a b e)) ∙ sym e
+        shift x y (inr e) = ne-eqb (a - 128) (b - 128) (λ f. eqb-false a b e (omega arith)) ∙ sym e
+
+-- the places of an atom, of which j of w are passed
+module _ (B : List ℕ) (i j w : ℕ) (lt : j < w) where
+  after : w - j ≡ suc (w - (j + 1))
+  after = omega arith
+
+  onward : i + j + 1 ≡ i + (j + 1)
+  onward = omega arith
+
+  pub args-more : (getD B (i + j) 0 ≡ 255 → ⊥)
+      → argsAt B (i + j) (w - j) ≡ termOf (getD B (i + j) 0) ∷ argsAt B (i + (j + 1)) (w - (j + 1))
+  unfolding argsAt
+  args-more used = rw (after, argsAt, ne-eqb (getD B (i + j) 0) 255 used, onward)
+
+  pub args-end : getD B (i + j) 0 ≡ 255 → argsAt B (i + j) (w - j) ≡ []
+  unfolding argsAt
+  args-end free = rw (after, argsAt, eq-eqb (getD B (i + j) 0) 255 free)
+
+  -- the test of the places, one at a time
+  pub unused-passes : getD B (i + j) 0 ≡ 255 → unused B (i + j) (w - j) ≡ unused B (i + (j + 1)) (w - (j + 1))
+  unfolding unused
+  unused-passes free = rw (after, unused, eq-eqb (getD B (i + j) 0) 255 free, onward)
+
+  pub unused-fails : (getD B (i + j) 0 ≡ 255 → ⊥) → unused B (i + j) (w - j) ≡ false
+  unfolding unused
+  unused-fails used = rw (after, unused, ne-eqb (getD B (i + j) 0) 255 used)
+
+  pub used-passes : (L : Layout) → isTerm L (getD B (i + j) 0) ≡ true
+      → usedFirst L B (i + j) (w - j) ≡ usedFirst L B (i + (j + 1)) (w - (j + 1))
+  unfolding usedFirst
+  used-passes L e = rw (after, usedFirst, e, onward)
+
+  pub used-stops : (L : Layout) → isTerm L (getD B (i + j) 0) ≡ false
+      → usedFirst L B (i + j) (w - j) ≡ unused B (i + j) (w - j)
+  unfolding usedFirst
+  used-stops L e = rw (after, usedFirst, e)
+
+  -- a used place of a sound atom holds a term, and the places after it are sound
+  pub used-more : (L : Layout) → T (usedFirst L B (i + j) (w - j)) → (getD B (i + j) 0 ≡ 255 → ⊥)
+      → T (isTerm L (getD B (i + j) 0)) × T (usedFirst L B (i + (j + 1)) (w - (j + 1)))
+  used-more L t used = go (either (isTerm L (getD B (i + j) 0)))
+    where
+      go : (isTerm L (getD B (i + j) 0) ≡ true) ⊎ (isTerm L (getD B (i + j) 0) ≡ false)
+          → T (isTerm L (getD B (i + j) 0)) × T (usedFirst L B (i + (j + 1)) (w - (j + 1)))
+      go (inl e) = (true→T _ e, subst T (used-passes L e) t)
+      go (inr e) = absurd (subst T (used-stops L e ∙ unused-fails used) t)
+
+-- no place is left
+pub unused-none : (B : List ℕ) (i w : ℕ) → w ≡ 0 → unused B i w ≡ true
+unfolding unused
+unused-none B i w e = rw (e, unused)
+
+pub used-none : (L : Layout) (B : List ℕ) (i w : ℕ) → w ≡ 0 → usedFirst L B i w ≡ true
+unfolding usedFirst
+used-none L B i w e = rw (e, usedFirst)
+
+-- a term's byte is a variable's or a constant's
+pub term-constant : (L : Layout) (b : ℕ) → T (isTerm L b) → L .variables ≤ b → 128 ≤ b
+unfolding isTerm
+term-constant L b t le = go (or-cases (ltb b (L .variables)) (leb 128 b && ltb b (128 + L .constants)) t)
+  where
+    go : T (ltb b (L .variables)) ⊎ T (leb 128 b && ltb b (128 + L .constants)) → 128 ≤ b
+    go (inl h) = let x = ltb→lt b (L .variables) h in omega arith
+    go (inr h) = leb→le 128 b (fst-of (leb 128 b) (ltb b (128 + L .constants)) h)
+
+-- a sound atom's places are sound
+pub atom-used : (L : Layout) (B : List ℕ) (i : ℕ) → T (isAtom L B i) → T (usedFirst L B (i + 1) (L .places))
+unfolding isAtom
+atom-used L B i t =
+    snd-of (isTerm L (getD B (i + 1) 0)) _ (snd-of (ltb (getD B i 0) (L .relations)) _ t)
+
+-- the test of an atom and of atoms, one way at a time
+module _ (L : Layout) (B : List ℕ) (i : ℕ) where
+  pub atom-relation : L .relations ≤ getD B i 0 → isAtom L B i ≡ false
+  unfolding isAtom
+  atom-relation h = rw (le-ltb (getD B i 0) (L .relations) h)
+
+  pub atom-empty : getD B i 0 < L .relations → isTerm L (getD B (i + 1) 0) ≡ false → isAtom L B i ≡ false
+  unfolding isAtom
+  atom-empty h e = rw (lt-ltb (getD B i 0) (L .relations) h, e)
+
+  pub atom-places : getD B i 0 < L .relations → isTerm L (getD B (i + 1) 0) ≡ true
+      → isAtom L B i ≡ usedFirst L B (i + 1) (L .places)
+  unfolding isAtom
+  atom-places h e = rw (lt-ltb (getD B i 0) (L .relations) h, e)
+
+  pub are-none : (n : ℕ) → n ≡ 0 → areAtoms L B i n ≡ true
+  unfolding areAtoms
+  are-none n e = rw (e, areAtoms)
+
+  pub are-fails : (n : ℕ) → 0 < n → isAtom L B i ≡ false → areAtoms L B i n ≡ false
+  unfolding areAtoms
+  are-fails (suc n) h e = rw e
+
+  pub are-passes : (n : ℕ) → 0 < n → isAtom L B i ≡ true → areAtoms L B i n ≡ areAtoms L B (i + size L) (n - 1)
+  unfolding areAtoms
+  are-passes (suc n) h e = rw (e, suc-sub-one n)
+
+-- the test of a record
+module _ (L : Layout) (B : List ℕ) where
+  pub record-none : getD B 0 0 ≡ 0 → isRecord L B ≡ false
+  unfolding isRecord
+  record-none e = rw e
+
+  pub record-empty : length B ≡ 0 → isRecord L B ≡ false
+  record-empty e = record-none (List·getD-eq-default B 0 {n = 0} (omega arith))
+
+  pub record-many : 0 < getD B 0 0 → L .atoms < getD B 0 0 → isRecord L B ≡ false
+  unfolding isRecord
+  record-many s m = rw (le-leb 1 (getD B 0 0) s, lt-leb (getD B 0 0) (L .atoms) m)
+
+  module _ (s : 0 < getD B 0 0) (m : getD B 0 0 ≤ L .atoms) where
+    pub record-misfit : (length B ≡ 1 + getD B 0 0 * size L → ⊥) → isRecord L B ≡ false
+    unfolding isRecord
+    record-misfit ne =
+        rw (le-leb 1 (getD B 0 0) s, le-leb (getD B 0 0) (L .atoms) m, ne-eqb (length B) (1 + getD B 0 0 * size L) ne)
+
+    pub record-fits : length B ≡ 1 + getD B 0 0 * size L → isRecord L B ≡ areAtoms L B 1 (getD B 0 0)
+    unfolding isRecord
+    record-fits e =
+        rw (le-leb 1 (getD B 0 0) s, le-leb (getD B 0 0) (L .atoms) m, eq-eqb (length B) (1 + getD B 0 0 * size L) e)
+
+-- a record that passed fits exactly, and is sound
+pub record-length : (L : Layout) (B : List ℕ) → T (isRecord L B) → length B ≡ 1 + getD B 0 0 * size L
+unfolding isRecord
+record-length L B t =
+    let n = getD B 0 0 in
+    let rest = snd-of (leb 1 n && leb n (L .atoms)) _ t in
+    eqb→eq (length B) (1 + n * size L) (fst-of (eqb (length B) (1 + n * size L)) _ rest)
+
+pub record-sound : (L : Layout) (B : List ℕ) → T (isRecord L B) → Sound L B
+unfolding isRecord
+record-sound L B t =
+    let n = getD B 0 0 in
+    let count = fst-of (leb 1 n && leb n (L .atoms)) _ t in
+    let rest = snd-of (leb 1 n && leb n (L .atoms)) _ t in
+    record {
+      some-atom = leb→le 1 n (fst-of (leb 1 n) (leb n (L .atoms)) count);
+      most = leb→le n (L .atoms) (snd-of (leb 1 n) (leb n (L .atoms)) count);
+      fits = omega (arith, record-length L B t);
+      atoms = snd-of (eqb (length B) (1 + n * size L)) _ rest;
+    }

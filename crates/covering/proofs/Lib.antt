@@ -1,0 +1,26 @@
+-- The laws of covering and of the member record, for the code of `cover` and for the layers above.
+
+-- tests, lists, parts of a buffer; terms
+pub mod Tests
+pub mod Lists
+pub mod Slices
+pub mod Terms
+-- covering is a preorder, the search decides it, and its map is the first
+pub mod Preorder
+pub mod Decides
+pub mod First
+-- the form of a question
+pub mod Form
+pub mod Same
+-- a record's bytes: place by place, atom by atom, copied, as long as they are, there and back
+pub mod Bytes
+pub mod Places
+pub mod Copied
+pub mod Lengths
+pub mod RoundTrip
+pub mod Begun
+-- what fits a record; another layout
+pub mod Fitting
+pub mod Wider
+-- the desk's answers
+pub mod Answers

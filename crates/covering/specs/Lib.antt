@@ -1,0 +1,10 @@
+-- What a reader must believe of covering and of the member record, in the order in which to read it. The operations on
+-- lists come first; `Rule` stands here because it needs only terms, and both the stored book and a step speak of rules.
+pub mod Lists
+pub mod Term
+pub mod Rule
+pub mod Covers
+pub mod Search
+pub mod Form
+pub mod Record
+pub mod Desk

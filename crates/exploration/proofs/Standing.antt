@@ -1,0 +1,74 @@
+-- Laws of members that stand in bytes (`specs/Standing`): those that were written stand, and what is known of each.
+-- Assumes nothing.
+use mathlib.Core.Path.{_≡_, refl, sym, _∙_, ap, subst}
+use mathlib.Core.List.{List, [], _∷_, _++_, append-assoc, List·Memᴰ·head, List·Memᴰ·tail}
+use Prim.Native.Nat.{ℕ, _+_, _*_, _-_, _≤_, _<_}
+use native.Mathlib.Omega.{arith}
+use lib.ListN.{length, getD, drop, length-drop}
+use lib.Seq.{drop-drop, drop-at, getD-drop}
+use Rattle.covering.specs.Lists.{_∈_}
+use Rattle.covering.specs.Term.{Question}
+use Rattle.covering.specs.Record.{desk, recordBytes, Fits, Sound}
+use Rattle.covering.proofs.Lengths.{record-is, record-long}
+use Rattle.covering.proofs.RoundTrip.{desk-apart}
+use Rattle.covering.proofs.Begun.{begun-sound}
+use Rattle.reading.specs.Word.{byte}
+use Rattle.exploration.specs.Union.{membersBytes, memberEnd}
+use Rattle.exploration.specs.Standing.{Standing}
+use Rattle.covering.proofs.Tests.{one-more}
+use Rattle.exploration.specs.Standing.{Standing}
+use Rattle.exploration.proofs.Members.{end-at, count-from}
+
+module _ (W : List ℕ) where
+  pub members-stand : (i : ℕ) (U : List Question) (R : List ℕ) → ((M : Question) → M ∈ U → Fits desk M)
+      → drop i W ≡ membersBytes U ++ R → Standing W i (length U)
+  unfolding Standing
+  members-stand i [] R fits e = tt
+  members-stand i (M ∷ U) R fits e = (
+    subst (Sound desk) (sym here)
+        (begun-sound desk desk-apart M (membersBytes U ++ R) (fits M (List·Memᴰ·head refl))),
+    subst (λ (k : ℕ). Standing W k (length U)) end
+        (members-stand (i + length (recordBytes desk M)) U R (λ N x. fits N (List·Memᴰ·tail x)) next),
+  )
+    where
+      here : drop i W ≡ recordBytes desk M ++ (membersBytes U ++ R)
+      here = e ∙ append-assoc (recordBytes desk M) (membersBytes U) R
+
+      zeroth : i ≡ i + 0
+      zeroth = omega arith
+
+      count : byte W i ≡ length M
+      count =
+          ap (λ (k : ℕ). getD W k 0) zeroth
+          ∙ sym (getD-drop i W 0 0)
+          ∙ ap (λ (l : List ℕ). getD l 0 0)
+          (here ∙ ap (λ (l : List ℕ). l ++ (membersBytes U ++ R)) (record-is desk M))
+
+      end : i + length (recordBytes desk M) ≡ memberEnd W i
+      end = omega (arith, count, record-long desk M)
+
+      next : drop (i + length (recordBytes desk M)) W ≡ membersBytes U ++ R
+      next =
+          sym (drop-drop (length (recordBytes desk M)) i W)
+          ∙ ap (drop (length (recordBytes desk M))) here
+          ∙ drop-at (recordBytes desk M) (membersBytes U ++ R) (length (recordBytes desk M)) refl
+
+-- what is known of the member at a place where one stands
+pub record Here (W : List ℕ) (at n : ℕ) : Type 0 where
+  pub sound : Sound desk (drop at W)
+  pub most : byte W at ≤ 11
+  pub within : at + (1 + byte W at * 5) ≤ length W
+  pub rest : Standing W (at + (1 + byte W at * 5)) n
+
+pub stands : (W : List ℕ) (at i n : ℕ) → i < n → Standing W at (n - i) → Here W at (n - (i + 1))
+unfolding Standing
+stands W at i n h s =
+    let m : Sound desk (drop at W) × Standing W (memberEnd W at) (n - (i + 1)) =
+    subst (Standing W at) (one-more n i h) s in
+    let e = count-from W at in
+    record {
+      sound = m .0;
+      most = omega (arith, m .0 .most, e);
+      within = omega (arith, m .0 .fits, e, length-drop at W);
+      rest = subst (λ (k : ℕ). Standing W k (n - (i + 1))) (end-at W at) (m .1);
+    }

@@ -1,0 +1,301 @@
+-- Each test of `Verdict` is passed exactly where the condition of its number in `Refusals` does not apply, and each
+-- search finds the earliest place at which it does. Assumes nothing.
+use mathlib.Core.Path.{_≡_, refl, sym, subst}
+use mathlib.Core.Bool.{Bool, true, false, not, _&&_}
+use mathlib.Core.Logic.{_⊎_, inl, inr}
+use mathlib.Core.List.{List}
+use mathlib.Core.Option.{none}
+use Prim.Native.Nat.{ℕ, zero, suc, _+_, _*_, _-_, _≤_, _<_}
+use native.Mathlib.Omega.{arith}
+use lib.Dec.{T, eqb, leb, eqb→eq, eqb-refl, le→leb, leb→le}
+use lib.ListN.{length}
+use Rattle.covering.proofs.Tests.{decide, clash, both, fst-of, snd-of, none≢some, le-or-lt}
+use Rattle.reading.specs.Word.{byte}
+use Rattle.reading.specs.Header.{headerSize, relations, constants, rules, atoms, allowed, relationsAt, rulesAt}
+use Rattle.reading.specs.Header.{questionAt, total, headerOf, Range, Outside, inside, relationsRange}
+use Rattle.reading.specs.Header.{constantsRange, rulesRange, atomsRange, allowedRange, placesRange, bodyRange}
+use Rattle.reading.specs.Header.{headRange, atomSize}
+use Rattle.reading.specs.Book.{bodyCount, headCount, bodyAt, ruleEnd, after, rulesStart, ruleStart}
+use Rattle.reading.specs.Refusals.{Short, OutsideTable, relations-out, constants-out, rules-out, atoms-out}
+use Rattle.reading.specs.Refusals.{allowed-out, OffsetWrong, relations-not, rules-not, question-below, total-not}
+use Rattle.reading.specs.Refusals.{length-not, PlacesWrong, RuleWrong, body-count, head-count, runs-past}
+use Rattle.reading.specs.Refusals.{end-before, AtomOf, in-body, in-head, in-question, AtomWrong, ByteWrong}
+use Rattle.reading.specs.Verdict.{unless, inTable, offsetsRight, wrongPlaces, ruleRight, wrongRule, wrongByte}
+use Rattle.reading.proofs.Earliest.{Earliest, holds-nowhere, earliest-same, earliest-test, earliest-else}
+use Rattle.reading.proofs.Found.{PlacesFrom, places-earliest, RulesFrom, rules-earliest, AtomsFrom}
+use Rattle.reading.proofs.Found.{atoms-earliest, atoms-from, RuleBytes, bytes-earliest, bytes-to}
+
+-- ranges
+pub inside-in : (r : Range) {n : ℕ} → T (inside r n) → (r .least ≤ n) × (n ≤ r .most)
+inside-in r {n} t =
+    let low = leb (r .least) n in
+    let high = leb n (r .most) in
+    (leb→le _ _ (fst-of low high t), leb→le _ _ (snd-of low high t))
+
+inside-not : (r : Range) {n : ℕ} → T (inside r n) → Outside r n → ⊥
+inside-not r t (inl l) = let h = inside-in r t in omega arith
+inside-not r t (inr l) = let h = inside-in r t in omega arith
+
+outside : (r : Range) {n : ℕ} → (T (inside r n) → ⊥) → Outside r n
+outside r {n} f = go (le-or-lt (r .least) n) (le-or-lt n (r .most))
+  where
+    go : (r .least ≤ n) ⊎ (n < r .least) → (n ≤ r .most) ⊎ (r .most < n) → Outside r n
+    go (inl a) (inl b) = absurd (f (both (leb (r .least) n) (leb n (r .most)) (le→leb _ _ a) (le→leb _ _ b)))
+    go (inl a) (inr b) = inr b
+    go (inr a) c = inl a
+
+-- what follows where the first part of a test is not passed, and where the second is not
+either : {W : Type 0} (a b : Bool) → ((T a → ⊥) → W) → ((T b → ⊥) → W) → (T (a && b) → ⊥) → W
+either true b f g h = g h
+either false b f g h = f (λ t. t)
+
+eq-not : {m n : ℕ} → (T (eqb m n) → ⊥) → m ≡ n → ⊥
+eq-not {m} f e = f (subst (λ (k : ℕ). T (eqb m k)) e (eqb-refl m))
+
+le-not : {m n : ℕ} → (T (leb m n) → ⊥) → n < m
+le-not {m} {n} f = go (le-or-lt m n)
+  where
+    go : (m ≤ n) ⊎ (n < m) → n < m
+    go (inl l) = absurd (f (le→leb m n l))
+    go (inr l) = l
+
+module _ (B : List ℕ) where
+  -- 2
+  pub short-earliest : Earliest (λ p. (p ≡ 0) × Short B) (unless (leb headerSize (length B)) 0)
+  short-earliest =
+      earliest-same
+      (λ p w. (w .0, le-not (w .1)))
+      (λ p w. (w .0, λ t. let l : headerSize ≤ length B = leb→le _ _ t in omega (arith, w .1)))
+      (earliest-test (λ p. leb headerSize (length B)) 0)
+
+  -- 3
+  pub record InTable : Type 0 where
+    pub relations-in : T (inside relationsRange (relations B))
+    pub constants-in : T (inside constantsRange (constants B))
+    pub rules-in : T (inside rulesRange (rules B))
+    pub atoms-in : T (inside atomsRange (atoms B))
+    pub allowed-in : T (inside allowedRange (allowed B))
+
+  pub in-table : T (inTable (headerOf B)) → InTable
+  unfolding inTable
+  in-table t =
+      let t₂ = snd-of (inside relationsRange (relations B)) _ t in
+      let t₃ = snd-of (inside constantsRange (constants B)) _ t₂ in
+      let t₄ = snd-of (inside rulesRange (rules B)) _ t₃ in
+      record {
+        relations-in = fst-of (inside relationsRange (relations B)) _ t;
+        constants-in = fst-of (inside constantsRange (constants B)) _ t₂;
+        rules-in = fst-of (inside rulesRange (rules B)) _ t₃;
+        atoms-in = fst-of (inside atomsRange (atoms B)) _ t₄;
+        allowed-in = snd-of (inside atomsRange (atoms B)) _ t₄;
+      }
+
+  table-not : T (inTable (headerOf B)) → OutsideTable B → ⊥
+  table-not t (relations-out o) = inside-not relationsRange (in-table t .relations-in) o
+  table-not t (constants-out o) = inside-not constantsRange (in-table t .constants-in) o
+  table-not t (rules-out o) = inside-not rulesRange (in-table t .rules-in) o
+  table-not t (atoms-out o) = inside-not atomsRange (in-table t .atoms-in) o
+  table-not t (allowed-out o) = inside-not allowedRange (in-table t .allowed-in) o
+
+  table-out : (T (inTable (headerOf B)) → ⊥) → OutsideTable B
+  unfolding inTable
+  table-out =
+      either (inside relationsRange (relations B)) _ (λ f. relations-out (outside relationsRange f))
+      (either (inside constantsRange (constants B)) _ (λ f. constants-out (outside constantsRange f))
+      (either (inside rulesRange (rules B)) _ (λ f. rules-out (outside rulesRange f))
+      (either (inside atomsRange (atoms B)) _ (λ f. atoms-out (outside atomsRange f))
+      (λ f. allowed-out (outside allowedRange f)))))
+
+  pub table-earliest : Earliest (λ p. (p ≡ 0) × OutsideTable B) (unless (inTable (headerOf B)) 0)
+  table-earliest =
+      earliest-same (λ p w. (w .0, table-out (w .1))) (λ p w. (w .0, λ t. table-not t (w .1)))
+      (earliest-test (λ p. inTable (headerOf B)) 0)
+
+  -- 4
+  pub record OffsetsRight : Type 0 where
+    pub relations-at : relationsAt B ≡ headerSize
+    pub rules-at : rulesAt B ≡ headerSize + relations B
+    pub question-at : rulesAt B ≤ questionAt B
+    pub total-is : total B ≡ questionAt B + atomSize * atoms B
+    pub length-is : total B ≡ length B
+
+  pub offsets-right : T (offsetsRight (headerOf B) (length B)) → OffsetsRight
+  unfolding offsetsRight
+  offsets-right t =
+      let t₂ = snd-of (eqb (relationsAt B) headerSize) _ t in
+      let t₃ = snd-of (eqb (rulesAt B) (headerSize + relations B)) _ t₂ in
+      let t₄ = snd-of (leb (rulesAt B) (questionAt B)) _ t₃ in
+      record {
+        relations-at = eqb→eq _ _ (fst-of (eqb (relationsAt B) headerSize) _ t);
+        rules-at = eqb→eq _ _ (fst-of (eqb (rulesAt B) (headerSize + relations B)) _ t₂);
+        question-at = leb→le _ _ (fst-of (leb (rulesAt B) (questionAt B)) _ t₃);
+        total-is = eqb→eq _ _ (fst-of (eqb (total B) (questionAt B + atomSize * atoms B)) _ t₄);
+        length-is = eqb→eq _ _ (snd-of (eqb (total B) (questionAt B + atomSize * atoms B)) _ t₄);
+      }
+
+  offsets-not : T (offsetsRight (headerOf B) (length B)) → OffsetWrong B → ⊥
+  offsets-not t (relations-not f) = f (offsets-right t .relations-at)
+  offsets-not t (rules-not f) = f (offsets-right t .rules-at)
+  offsets-not t (question-below l) = let h = offsets-right t .question-at in omega arith
+  offsets-not t (total-not f) = f (offsets-right t .total-is)
+  offsets-not t (length-not f) = f (offsets-right t .length-is)
+
+  offsets-wrong : (T (offsetsRight (headerOf B) (length B)) → ⊥) → OffsetWrong B
+  unfolding offsetsRight
+  offsets-wrong =
+      either (eqb (relationsAt B) headerSize) _ (λ f. relations-not (eq-not f))
+      (either (eqb (rulesAt B) (headerSize + relations B)) _ (λ f. rules-not (eq-not f))
+      (either (leb (rulesAt B) (questionAt B)) _ (λ f. question-below (le-not f))
+      (either (eqb (total B) (questionAt B + atomSize * atoms B)) _ (λ f. total-not (eq-not f))
+      (λ f. length-not (eq-not f)))))
+
+  pub offsets-earliest : Earliest (λ p. (p ≡ 0) × OffsetWrong B) (unless (offsetsRight (headerOf B) (length B)) 0)
+  offsets-earliest =
+      earliest-same (λ p w. (w .0, offsets-wrong (w .1))) (λ p w. (w .0, λ t. offsets-not t (w .1)))
+      (earliest-test (λ p. offsetsRight (headerOf B) (length B)) 0)
+
+  -- 5
+  pub relation-earliest : Earliest (PlacesWrong B) (wrongPlaces B headerSize (relations B))
+  relation-earliest = earliest-same to from (places-earliest B headerSize (relations B))
+    where
+      to : (p : ℕ) → PlacesFrom B headerSize (relations B) p → PlacesWrong B p
+      to p w =
+          let e : headerSize + (p - headerSize) ≡ p = omega arith in
+          record {
+            relation = p - headerSize;
+            below = omega arith;
+            at = sym e;
+            wrong = outside placesRange (subst (λ (q : ℕ). T (inside placesRange (byte B q)) → ⊥) (sym e) (w .2));
+          }
+
+      from : (p : ℕ) → PlacesWrong B p → PlacesFrom B headerSize (relations B) p
+      from p w = (
+        omega (arith, w .at),
+        omega (arith, w .at, w .below),
+        λ t. inside-not placesRange (subst (λ (q : ℕ). T (inside placesRange (byte B q))) (w .at) t) (w .wrong),
+      )
+
+  -- 6
+  pub record RuleRight (e s : ℕ) : Type 0 where
+    pub body-in : T (inside bodyRange (bodyCount B s))
+    pub head-in : T (inside headRange (headCount B s))
+    pub ends : ruleEnd B s ≤ e
+
+  pub rule-right : (e s : ℕ) → T (ruleRight B e s) → RuleRight e s
+  unfolding ruleRight
+  rule-right e s t =
+      let t₂ = snd-of (inside bodyRange (bodyCount B s)) _ t in
+      record {
+        body-in = fst-of (inside bodyRange (bodyCount B s)) _ t;
+        head-in = fst-of (inside headRange (headCount B s)) _ t₂;
+        ends = leb→le _ _ (snd-of (inside headRange (headCount B s)) _ t₂);
+      }
+
+  rule-wrong : (p k : ℕ) → k < rules B → p ≡ ruleStart B k → (T (ruleRight B (questionAt B) p) → ⊥) → RuleWrong B p
+  unfolding ruleRight
+  rule-wrong p k l e =
+      either (inside bodyRange (bodyCount B p)) _ (λ f. body-count k l e (outside bodyRange f))
+      (either (inside headRange (headCount B p)) _ (λ f. head-count k l e (outside headRange f))
+      (λ f. runs-past k l e (le-not f)))
+
+  -- "A rule whose two count bytes don't both fit runs past."
+  pub counts-unfit : (k : ℕ) → k < rules B → questionAt B < ruleStart B k + 2 → RuleWrong B (ruleStart B k)
+  counts-unfit k l h = runs-past k l refl (omega arith)
+
+  pub rule-earliest : Earliest (RuleWrong B) (wrongRule B (questionAt B) (rulesStart B) (rules B))
+  rule-earliest = earliest-same to from (rules-earliest B (questionAt B) (rulesStart B) (rules B))
+    where
+      to : (p : ℕ) → RulesFrom B (questionAt B) (rulesStart B) (rules B) p → RuleWrong B p
+      to p (inl w) = rule-wrong p (w .0) (w .1) (w .2) (w .3)
+      to p (inr w) = end-before (w .0) (le-not (w .1))
+
+      from : (p : ℕ) → RuleWrong B p → RulesFrom B (questionAt B) (rulesStart B) (rules B) p
+      from p (body-count k l e o) = inl (k, l, e, λ t. inside-not bodyRange (rule-right _ p t .body-in) o)
+      from p (head-count k l e o) = inl (k, l, e, λ t. inside-not headRange (rule-right _ p t .head-in) o)
+      from p (runs-past k l e o) = inl (k, l, e, λ t. let h = rule-right _ p t .ends in omega arith)
+      from p (end-before e l) = inr (e, λ t. let h : questionAt B ≤ p = leb→le _ _ t in omega arith)
+
+  -- 7, where the rules end no later than the question starts
+  ByteFrom : ℕ → Type 0
+  ByteFrom p = RuleBytes B (rulesStart B) (rules B) p ⊎ AtomsFrom B (questionAt B) (atoms B) p
+
+  byte-to : (p : ℕ) → ByteFrom p → ByteWrong B p
+  unfolding ByteFrom
+  byte-to p (inl w) = go (w .2 .0) (w .2 .1) (w .2 .2) (le-or-lt (bodyCount B s) (w .2 .0))
+    where
+      s : ℕ
+      s = ruleStart B (w .0)
+
+      go : (j : ℕ) → j < bodyCount B (ruleStart B (w .0)) + headCount B (ruleStart B (w .0))
+          → AtomWrong B (bodyAt B (ruleStart B (w .0)) + atomSize * j) p
+          → (bodyCount B (ruleStart B (w .0)) ≤ j) ⊎ (j < bodyCount B (ruleStart B (w .0))) → ByteWrong B p
+      go j l v (inl h) =
+          record {
+            atom = bodyAt B (ruleStart B (w .0)) + atomSize * j;
+            isAtom = in-head (w .0) (j - bodyCount B (ruleStart B (w .0))) (w .1) (omega arith) (omega arith);
+            wrong = v;
+          }
+      go j l v (inr h) =
+          record {
+            atom = bodyAt B (ruleStart B (w .0)) + atomSize * j;
+            isAtom = in-body (w .0) j (w .1) h refl;
+            wrong = v;
+          }
+  byte-to p (inr w) = record { atom = _; isAtom = in-question (w .0) (w .1) refl; wrong = w .2 }
+
+  byte-from : (p i : ℕ) → AtomOf B i → AtomWrong B i p → ByteFrom p
+  unfolding ByteFrom
+  byte-from p i (in-body k j l h e) v =
+      inl (k, l, (j, omega arith, subst (λ (a : ℕ). AtomWrong B a p) e v))
+  byte-from p i (in-head k j l h e) v =
+      let s = ruleStart B k in
+      let d : i ≡ bodyAt B s + atomSize * (bodyCount B s + j) = omega arith in
+      inl (k, l, (bodyCount B s + j, omega arith, subst (λ (a : ℕ). AtomWrong B a p) d v))
+  byte-from p i (in-question j h e) v = inr (j, h, subst (λ (a : ℕ). AtomWrong B a p) e v)
+
+  pub byte-earliest : ruleStart B (rules B) ≤ questionAt B → Earliest (ByteWrong B) (wrongByte B)
+  unfolding ByteFrom wrongByte
+  byte-earliest h =
+      earliest-same byte-to (λ p w. byte-from p (w .atom) (w .isAtom) (w .wrong))
+      (earliest-else (bytes-earliest B (rulesStart B) (rules B)) (atoms-earliest B (questionAt B) (atoms B))
+      (λ p q v w. omega (arith, bytes-to B (rulesStart B) (rules B) p v, atoms-from B (questionAt B) (atoms B) q w)))
+
+-- a test that finds nothing is passed
+pub unless-none : (b : Bool) (i : ℕ) → unless b i ≡ none → T b
+unless-none true i e = tt
+unless-none false i e = absurd (none≢some (sym e))
+
+module _ (B : List ℕ) where
+  -- rules that are all right, and after which nothing is left, end where the question starts
+  pub rules-right : (e s n : ℕ) → wrongRule B e s n ≡ none → (k : ℕ) → k < n → T (ruleRight B e (after B s k))
+  rules-right e s n h k l = go (decide (ruleRight B e (after B s k)))
+    where
+      none-wrong : (p : ℕ) → RulesFrom B e s n p → ⊥
+      none-wrong = holds-nowhere (subst (Earliest (RulesFrom B e s n)) h (rules-earliest B e s n))
+
+      go : T (ruleRight B e (after B s k)) ⊎ T (not (ruleRight B e (after B s k))) → T (ruleRight B e (after B s k))
+      go (inl t) = t
+      go (inr t) = absurd (none-wrong _ (inl (k, l, refl, λ u. clash (ruleRight B e (after B s k)) u t)))
+
+  rules-end-late : (e s n : ℕ) → wrongRule B e s n ≡ none → e ≤ after B s n
+  rules-end-late e s n h = go (le-or-lt e (after B s n))
+    where
+      none-wrong : (p : ℕ) → RulesFrom B e s n p → ⊥
+      none-wrong = holds-nowhere (subst (Earliest (RulesFrom B e s n)) h (rules-earliest B e s n))
+
+      go : (e ≤ after B s n) ⊎ (after B s n < e) → e ≤ after B s n
+      go (inl l) = l
+      go (inr l) =
+          absurd (none-wrong _ (inr (refl, λ t. let m : e ≤ after B s n = leb→le _ _ t in omega arith)))
+
+  right-ends : (e s n : ℕ) → s ≤ e → ((k : ℕ) → k < n → T (ruleRight B e (after B s k))) → after B s n ≤ e
+  unfolding after
+  right-ends e s zero l f = l
+  right-ends e s (suc n) l f =
+      right-ends e (ruleEnd B s) n (rule-right B e s (f 0 (omega arith)) .ends) (λ k m. f (suc k) (omega arith))
+
+  pub rules-end : (e s n : ℕ) → s ≤ e → wrongRule B e s n ≡ none → after B s n ≡ e
+  rules-end e s n l h =
+      let a : after B s n ≤ e = right-ends e s n l (rules-right e s n h) in
+      let b : e ≤ after B s n = rules-end-late e s n h in
+      omega arith

@@ -1,0 +1,97 @@
+-- What a book is read as (`bookOf`), part by part: laws for the layers above. Assumes nothing.
+use mathlib.Core.Path.{_≡_, refl, sym, _∙_, ap}
+use mathlib.Core.List.{List, [], _∷_, List·Memᴰ·head, List·Memᴰ·tail, List·Memᴰ·not-nil, List·Memᴰ·cases-cons}
+use mathlib.Core.Logic.{_⊎_, inl, inr}
+use Prim.Native.Nat.{ℕ, zero, suc, _+_, _*_, _-_, _≤_, _<_}
+use native.Mathlib.Nat.{sub-zero, sub-eq-zero-of-le}
+use native.Mathlib.Omega.{arith}
+use lib.ListN.{drop}
+use Rattle.covering.specs.Lists.{_∈_}
+use Rattle.covering.specs.Record.{desk, atomsAt}
+use Rattle.covering.specs.Rule.{Rule}
+use Rattle.reading.specs.Word.{byte, word}
+use Rattle.reading.specs.Header.{constants, rules, atoms, allowed, questionAt}
+use Rattle.reading.specs.Book.{bodyCount, headCount, bodyAt, headAt, ruleEnd, ruleAt, rulesFrom, after}
+use Rattle.reading.specs.Book.{rulesStart, ruleStart, bookOf}
+use Rattle.reading.proofs.After.{after-next}
+use Rattle.covering.proofs.Tests.{one-more}
+
+-- "All words are 16-bit, little-endian."
+pub word-is : (B : List ℕ) (i : ℕ) → word B i ≡ byte B i + 256 * byte B (i + 1)
+unfolding word
+word-is B i = refl
+
+module _ (B : List ℕ) where
+  -- the parts of a book
+  pub book-rules : bookOf B .rules ≡ rulesFrom B (rulesStart B) (rules B)
+  unfolding bookOf
+  book-rules = refl
+
+  pub book-question : bookOf B .question ≡ atomsAt desk B (questionAt B) (atoms B)
+  unfolding bookOf
+  book-question = refl
+
+  pub book-allowed : bookOf B .allowed ≡ allowed B
+  unfolding bookOf
+  book-allowed = refl
+
+  pub book-constants : bookOf B .constants ≡ constants B
+  unfolding bookOf
+  book-constants = refl
+
+  -- a rule's body and head, and where they stand
+  pub rule-body : (s : ℕ) → ruleAt B s .body ≡ atomsAt desk B (bodyAt B s) (bodyCount B s)
+  unfolding ruleAt
+  rule-body s = refl
+
+  pub rule-head : (s : ℕ) → ruleAt B s .head ≡ atomsAt desk B (headAt B s) (headCount B s)
+  unfolding ruleAt
+  rule-head s = refl
+
+  -- the rules as a loop goes through them: k of n are done
+  pub rules-none : (s n k : ℕ) → n ≤ k → rulesFrom B s (n - k) ≡ []
+  unfolding rulesFrom
+  rules-none s n k h = rw (sub-eq-zero-of-le h)
+
+  pub rules-more : (n k : ℕ) → k < n
+      → rulesFrom B (ruleStart B k) (n - k)
+      ≡ ruleAt B (ruleStart B k) ∷ rulesFrom B (ruleStart B (k + 1)) (n - (k + 1))
+  unfolding rulesFrom
+  rules-more n k h =
+      ap (rulesFrom B (ruleStart B k)) (one-more n k h)
+      ∙ ap (λ (s : ℕ). ruleAt B (ruleStart B k) ∷ rulesFrom B s (n - (k + 1))) (sym (after-next B (rulesStart B) k))
+
+  rules-after : (s n k : ℕ) → drop k (rulesFrom B s n) ≡ rulesFrom B (after B s k) (n - k)
+  unfolding rulesFrom after
+  rules-after s n zero = ap (rulesFrom B s) (sym (sub-zero n))
+  rules-after s zero (suc k) = ap (rulesFrom B (after B (ruleEnd B s) k)) (none-left (suc k))
+    where
+      none-left : (k : ℕ) → 0 ≡ 0 - k
+      none-left k = omega arith
+  rules-after s (suc n) (suc k) =
+      rules-after (ruleEnd B s) n k ∙ ap (rulesFrom B (after B (ruleEnd B s) k)) (fewer n k)
+    where
+      fewer : (n k : ℕ) → n - k ≡ suc n - suc k
+      fewer n k = omega arith
+
+  -- the rules from the k-th on
+  pub rules-left : (k : ℕ) → drop k (bookOf B .rules) ≡ rulesFrom B (ruleStart B k) (rules B - k)
+  rules-left k = ap (drop k) book-rules ∙ rules-after (rulesStart B) (rules B) k
+
+  -- where each rule of the list starts
+  pub rule-from : (s n : ℕ) {r : Rule} → r ∈ rulesFrom B s n → (k : ℕ) × (k < n) × (r ≡ ruleAt B (after B s k))
+  unfolding rulesFrom after
+  rule-from s zero m = absurd (List·Memᴰ·not-nil m)
+  rule-from s (suc n) {r} m = go (List·Memᴰ·cases-cons m) (λ t. rule-from (ruleEnd B s) n t)
+    where
+      go : (r ≡ ruleAt B s) ⊎ (r ∈ rulesFrom B (ruleEnd B s) n)
+          → (r ∈ rulesFrom B (ruleEnd B s) n → (k : ℕ) × (k < n) × (r ≡ ruleAt B (after B (ruleEnd B s) k)))
+          → (k : ℕ) × (k < suc n) × (r ≡ ruleAt B (after B s k))
+      go (inl e) below = (0, omega arith, e)
+      go (inr t) below = let b = below t in (suc (b .0), omega (arith, b .1), b .2)
+
+  pub rule-in : (s n k : ℕ) → k < n → ruleAt B (after B s k) ∈ rulesFrom B s n
+  unfolding rulesFrom after
+  rule-in s zero k l = absurd (omega arith)
+  rule-in s (suc n) zero l = List·Memᴰ·head refl
+  rule-in s (suc n) (suc k) l = List·Memᴰ·tail (rule-in (ruleEnd B s) n k (omega arith))

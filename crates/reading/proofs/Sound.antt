@@ -1,0 +1,297 @@
+-- What a book that is not refused gives the layers above: laws for them to cite. Assumes nothing.
+use mathlib.Core.Path.{_≡_, refl, sym, ap, subst}
+use mathlib.Core.Bool.{Bool, not, _&&_}
+use mathlib.Core.Logic.{_⊎_, inl, inr}
+use mathlib.Core.List.{List}
+use mathlib.Core.Option.{Option, none, some}
+use Prim.Native.Nat.{ℕ, _+_, _*_, _≤_, _<_}
+use native.Mathlib.Omega.{arith}
+use lib.Dec.{T, ltb, leb, eqb→eq, ltb→lt, leb→le}
+use borrow.Author.Tests.{lt-ltb, le-ltb}
+use lib.ListN.{length}
+use Rattle.covering.specs.Lists.{orElse}
+use Rattle.covering.specs.Record.{Layout, desk, size, atomAt, isTerm, isAtom, areAtoms}
+use Rattle.covering.proofs.Tests.{decide, clash, or-cases, fst-of, snd-of, none≢some, le-or-lt}
+use Rattle.covering.proofs.Places.{is-variable, is-constant, is-atom, are-atoms, atom-args}
+use Rattle.reading.specs.declared.Refusal.{Refusal}
+use Rattle.reading.specs.Word.{byte}
+use Rattle.reading.specs.Header.{headerSize, relations, constants, rules, atoms, questionAt, headerOf, atomSize}
+use Rattle.reading.specs.Header.{inside, constantsRange, atomsRange, placesRange, bodyRange, headRange}
+use Rattle.reading.specs.Header.{atomPlaces, variables}
+use Rattle.reading.specs.Book.{bodyCount, headCount, bodyAt, headAt, ruleEnd, rulesStart, ruleStart, placesOf}
+use Rattle.reading.specs.Book.{layoutOf}
+use Rattle.reading.specs.Refusals.{usedAllowed, placeAllowed, AtomWrong, relation, place, Applies}
+use Rattle.reading.specs.Verdict.{IsVerdict, sound, refused, unless, inTable, offsetsRight, wrongPlaces}
+use Rattle.reading.specs.Verdict.{wrongRule}
+use Rattle.reading.specs.Verdict.{wrongInAtoms, wrongInRules, wrongByte, refuse, contents, verdict, Sound}
+use Rattle.reading.proofs.Earliest.{Earliest, holds-nowhere}
+use Rattle.reading.proofs.Found.{PlacesFrom, places-earliest, AtomsFrom, atoms-earliest, RuleBytes}
+use Rattle.reading.proofs.Found.{bytes-earliest}
+use Rattle.reading.proofs.Conditions.{inside-in, rule-right, rules-right, unless-none}
+use Rattle.reading.proofs.Exact.{number-from, rules-end-at, verdict-exact}
+use Rattle.reading.proofs.Known.{HeaderKnown, header-known}
+
+-- nothing applies to a sound book
+pub sound-none : (B : List ℕ) → Sound B → (n p : ℕ) → Applies B n p → ⊥
+sound-none B s = go (verdict-exact B)
+  where
+    go : IsVerdict B (verdict B) → (n p : ℕ) → Applies B n p → ⊥
+    go (sound e f) = f
+    go (refused a f) = λ n p b. let h = number-from B a in omega arith
+
+-- and every test is passed
+refuse-zero : (n : ℕ) (o : Option ℕ) (r : Refusal) → 0 < n → refuse n o r .number ≡ 0
+    → (o ≡ none) × (r .number ≡ 0)
+refuse-zero n none r l e = (refl, e)
+refuse-zero n (some p) r l e = absurd (omega arith)
+
+else-none : (a b : Option ℕ) → orElse a b ≡ none → (a ≡ none) × (b ≡ none)
+else-none none b e = (refl, e)
+else-none (some p) b e = absurd (none≢some (sym e))
+
+record Passed (B : List ℕ) : Type 0 where
+  long : T (leb headerSize (length B))
+  table : T (inTable (headerOf B))
+  offsets : T (offsetsRight (headerOf B) (length B))
+  places : wrongPlaces B headerSize (relations B) ≡ none
+  rules-are : wrongRule B (questionAt B) (rulesStart B) (rules B) ≡ none
+  in-rules : wrongInRules B (rulesStart B) (rules B) ≡ none
+  in-question : wrongInAtoms B (questionAt B) (atoms B) ≡ none
+
+passed : (B : List ℕ) → Sound B → Passed B
+unfolding verdict contents wrongByte
+passed B s =
+    let r₂ = refuse-zero 2 (unless (leb headerSize (length B)) 0) _ (omega arith) s in
+    let r₃ = refuse-zero 3 (unless (inTable (headerOf B)) 0) _ (omega arith) (r₂ .1) in
+    let r₄ = refuse-zero 4 (unless (offsetsRight (headerOf B) (length B)) 0) _ (omega arith) (r₃ .1) in
+    let r₅ = refuse-zero 5 (wrongPlaces B headerSize (relations B)) _ (omega arith) (r₄ .1) in
+    let r₆ = refuse-zero 6 (wrongRule B (questionAt B) (rulesStart B) (rules B)) _ (omega arith) (r₅ .1) in
+    let r₇ = refuse-zero 7 (wrongByte B) _ (omega arith) (r₆ .1) in
+    let b = else-none (wrongInRules B (rulesStart B) (rules B)) (wrongInAtoms B (questionAt B) (atoms B)) (r₇ .0) in
+    record {
+      long = unless-none (leb headerSize (length B)) 0 (r₂ .0);
+      table = unless-none (inTable (headerOf B)) 0 (r₃ .0);
+      offsets = unless-none (offsetsRight (headerOf B) (length B)) 0 (r₄ .0);
+      places = r₅ .0;
+      rules-are = r₆ .0;
+      in-rules = b .0;
+      in-question = b .1;
+    }
+
+-- a layout that has room for the book's atoms: the book's own has, and the desk's
+pub record Room (B : List ℕ) (L : Layout) : Type 0 where
+  pub relations-fit : relations B ≤ L .relations
+  pub places-are : L .places ≡ atomPlaces
+  pub variables-fit : variables ≤ L .variables
+  pub constants-fit : constants B ≤ L .constants
+
+-- an atom at i with no wrong byte
+pub record AtomRight (B : List ℕ) (i : ℕ) : Type 0 where
+  pub relation : byte B i < relations B
+  pub some-place : 1 ≤ placesOf B (byte B i)
+  pub few-places : placesOf B (byte B i) ≤ atomPlaces
+  pub places : (w : ℕ) → w < atomPlaces
+      → T (placeAllowed (constants B) (ltb w (placesOf B (byte B i))) (byte B (i + 1 + w)))
+
+-- a rule at s of a sound book
+pub record SoundRule (B : List ℕ) (s : ℕ) : Type 0 where
+  pub some-body : bodyRange .least ≤ bodyCount B s
+  pub few-body : bodyCount B s ≤ bodyRange .most
+  pub some-head : headRange .least ≤ headCount B s
+  pub few-head : headCount B s ≤ headRange .most
+  pub ends : ruleEnd B s ≤ questionAt B
+  pub body : (j : ℕ) → j < bodyCount B s → AtomRight B (bodyAt B s + atomSize * j)
+  pub head : (j : ℕ) → j < headCount B s → AtomRight B (headAt B s + atomSize * j)
+
+-- its question
+pub record SoundQuestion (B : List ℕ) : Type 0 where
+  pub some-atom : 1 ≤ atoms B
+  pub few-atoms : atoms B ≤ atomsRange .most
+  pub ends : questionAt B + atomSize * atoms B ≡ length B
+  pub each : (j : ℕ) → j < atoms B → AtomRight B (questionAt B + atomSize * j)
+
+module _ (B : List ℕ) where
+  pub own-room : Room B (layoutOf B)
+  own-room =
+      record {
+        relations-fit = omega arith;
+        places-are = refl;
+        variables-fit = omega arith;
+        constants-fit = omega arith;
+      }
+
+  used-term : (L : Layout) → Room B L → (b : ℕ) → T (usedAllowed (constants B) b) → T (isTerm L b)
+  used-term L r b t = go (or-cases (ltb b variables) (leb 128 b && ltb b (128 + constants B)) t)
+    where
+      go : T (ltb b variables) ⊎ T (leb 128 b && ltb b (128 + constants B)) → T (isTerm L b)
+      go (inl h) =
+          let l : b < variables = ltb→lt _ _ h in
+          is-variable L b (omega (arith, r .variables-fit))
+      go (inr h) =
+          let l : 128 ≤ b = leb→le _ _ (fst-of (leb 128 b) (ltb b (128 + constants B)) h) in
+          let m : b < 128 + constants B = ltb→lt _ _ (snd-of (leb 128 b) (ltb b (128 + constants B)) h) in
+          is-constant L b l (omega (arith, r .constants-fit))
+
+  -- a used place, an unused place
+  module _ {i : ℕ} (a : AtomRight B i) where
+    pub used-place : (w : ℕ) → w < placesOf B (byte B i) → T (usedAllowed (constants B) (byte B (i + 1 + w)))
+    used-place w l =
+        subst (λ (u : Bool). T (placeAllowed (constants B) u (byte B (i + 1 + w))))
+        (lt-ltb w (placesOf B (byte B i)) l)
+        (a .places w (omega (arith, a .few-places)))
+
+    pub unused-place : (w : ℕ) → placesOf B (byte B i) ≤ w → w < atomPlaces → byte B (i + 1 + w) ≡ 255
+    unused-place w l m =
+        eqb→eq (byte B (i + 1 + w)) 255
+        (subst (λ (u : Bool). T (placeAllowed (constants B) u (byte B (i + 1 + w))))
+        (le-ltb w (placesOf B (byte B i)) l)
+        (a .places w m))
+
+    pub right-atom : (L : Layout) → Room B L → T (isAtom L B i)
+    right-atom L r =
+        is-atom L B i (placesOf B (byte B i)) (omega (arith, a .relation, r .relations-fit)) (a .some-place)
+        (omega (arith, a .few-places, r .places-are)) (λ w l. used-term L r _ (used-place w l))
+        (λ w l m. unused-place w l (omega (arith, r .places-are)))
+
+    -- an atom has as many terms as its relation has places
+    pub right-places : constants B ≤ constantsRange .most → length (atomAt desk B i .args) ≡ placesOf B (byte B i)
+    right-places c =
+        atom-args desk B i (placesOf B (byte B i)) (a .few-places)
+        (λ w l e. not-last (byte B (i + 1 + w)) (used-place w l) e) unused-place
+      where
+        not-last : (b : ℕ) → T (usedAllowed (constants B) b) → b ≡ 255 → ⊥
+        not-last b t e = go (or-cases (ltb b variables) (leb 128 b && ltb b (128 + constants B)) t)
+          where
+            go : T (ltb b variables) ⊎ T (leb 128 b && ltb b (128 + constants B)) → ⊥
+            go (inl h) = let l : b < variables = ltb→lt _ _ h in omega arith
+            go (inr h) =
+                let m : b < 128 + constants B = ltb→lt _ _ (snd-of (leb 128 b) (ltb b (128 + constants B)) h) in
+                omega arith
+
+  -- n atoms from i on, each of them right
+  pub right-atoms : (L : Layout) → Room B L → (i n : ℕ) → ((j : ℕ) → j < n → AtomRight B (i + atomSize * j))
+      → T (areAtoms L B i n)
+  right-atoms L r i n f = are-atoms L B i n (λ j l. subst at (spread j) (right-atom (f j l) L r))
+    where
+      at : ℕ → Type 0
+      at k = T (isAtom L B k)
+
+      spread : (j : ℕ) → i + atomSize * j ≡ i + size L * j
+      spread j = ap (λ (w : ℕ). i + (1 + w) * j) (sym (r .places-are))
+
+  module _ (s : Sound B) where
+    -- the header's numbers
+    pub sound-header : HeaderKnown B (headerOf B)
+    sound-header = header-known B (passed B s .table) (passed B s .offsets)
+
+    pub sound-long : headerSize ≤ length B
+    sound-long = leb→le _ _ (passed B s .long)
+
+    pub desk-room : Room B desk
+    desk-room =
+        let k = sound-header in
+        record {
+          relations-fit = k .few-relations;
+          places-are = refl;
+          variables-fit = omega arith;
+          constants-fit = k .few-constants;
+        }
+
+    -- "Relations: P bytes, each the number of places, 1 to 4."
+    pub sound-places : (r : ℕ) → r < relations B → (1 ≤ placesOf B r) × (placesOf B r ≤ atomPlaces)
+    sound-places r l = go (decide (inside placesRange (placesOf B r)))
+      where
+        none-wrong : (p : ℕ) → PlacesFrom B headerSize (relations B) p → ⊥
+        none-wrong =
+            holds-nowhere
+            (subst (Earliest (PlacesFrom B headerSize (relations B))) (passed B s .places)
+            (places-earliest B headerSize (relations B)))
+
+        go : T (inside placesRange (placesOf B r)) ⊎ T (not (inside placesRange (placesOf B r)))
+            → (1 ≤ placesOf B r) × (placesOf B r ≤ atomPlaces)
+        go (inl t) = inside-in placesRange t
+        go (inr t) =
+            absurd
+            (none-wrong (headerSize + r)
+            (omega arith, omega arith, λ u. clash (inside placesRange (placesOf B r)) u t))
+
+    not-wrong : (i : ℕ) → ((p : ℕ) → AtomWrong B i p → ⊥) → AtomRight B i
+    not-wrong i f =
+        let l = below (le-or-lt (relations B) (byte B i)) in
+        let u = sound-places (byte B i) l in
+        record {
+          relation = l;
+          some-place = u .0;
+          few-places = u .1;
+          places = λ w m. allowed l w m (decide (ok w));
+        }
+      where
+        below : (relations B ≤ byte B i) ⊎ (byte B i < relations B) → byte B i < relations B
+        below (inl h) = absurd (f i (relation h refl))
+        below (inr h) = h
+
+        ok : ℕ → Bool
+        ok w = placeAllowed (constants B) (ltb w (placesOf B (byte B i))) (byte B (i + 1 + w))
+
+        allowed : byte B i < relations B → (w : ℕ) → w < atomPlaces → T (ok w) ⊎ T (not (ok w)) → T (ok w)
+        allowed l w m (inl t) = t
+        allowed l w m (inr t) = absurd (f (i + 1 + w) (place l w m refl (λ u. clash (ok w) u t)))
+
+    -- the rules, each where it starts, end where the question starts
+    pub sound-end : ruleStart B (rules B) ≡ questionAt B
+    sound-end = rules-end-at B (passed B s .offsets) (passed B s .rules-are)
+
+    pub sound-rule : (k : ℕ) → k < rules B → SoundRule B (ruleStart B k)
+    sound-rule k l =
+        let r = rule-right B (questionAt B) start (rules-right B _ _ _ (passed B s .rules-are) k l) in
+        record {
+          some-body = inside-in bodyRange (r .body-in) .0;
+          few-body = inside-in bodyRange (r .body-in) .1;
+          some-head = inside-in headRange (r .head-in) .0;
+          few-head = inside-in headRange (r .head-in) .1;
+          ends = r .ends;
+          body = λ j m. not-wrong _ (λ p w. none-wrong p (k, l, (j, omega arith, w)));
+          head = λ j m. not-wrong _ (λ p w. none-wrong p (k, l, (bodyCount B start + j, omega arith, moved p j w)));
+        }
+      where
+        start : ℕ
+        start = ruleStart B k
+
+        none-wrong : (p : ℕ) → RuleBytes B (rulesStart B) (rules B) p → ⊥
+        none-wrong =
+            holds-nowhere
+            (subst (Earliest (RuleBytes B (rulesStart B) (rules B))) (passed B s .in-rules)
+            (bytes-earliest B (rulesStart B) (rules B)))
+
+        moved : (p j : ℕ) → AtomWrong B (headAt B start + atomSize * j) p
+            → AtomWrong B (bodyAt B start + atomSize * (bodyCount B start + j)) p
+        moved p j w = subst (λ (i : ℕ). AtomWrong B i p) (omega arith) w
+
+    pub sound-question : SoundQuestion B
+    sound-question =
+        let k = sound-header in
+        record {
+          some-atom = k .some-atom;
+          few-atoms = k .few-atoms;
+          ends = k .ends;
+          each = λ j l. not-wrong _ (λ p w. none-wrong p (j, l, w));
+        }
+      where
+        none-wrong : (p : ℕ) → AtomsFrom B (questionAt B) (atoms B) p → ⊥
+        none-wrong =
+            holds-nowhere
+            (subst (Earliest (AtomsFrom B (questionAt B) (atoms B))) (passed B s .in-question)
+            (atoms-earliest B (questionAt B) (atoms B)))
+
+    -- the atoms of rules and question in the form of `cover`'s records, for the desk's layout as for the book's own
+    module _ (L : Layout) (room : Room B L) where
+      pub sound-body : (k : ℕ) → k < rules B
+          → T (areAtoms L B (bodyAt B (ruleStart B k)) (bodyCount B (ruleStart B k)))
+      sound-body k l = right-atoms L room _ _ (sound-rule k l .body)
+
+      pub sound-head : (k : ℕ) → k < rules B
+          → T (areAtoms L B (headAt B (ruleStart B k)) (headCount B (ruleStart B k)))
+      sound-head k l = right-atoms L room _ _ (sound-rule k l .head)
+
+      pub sound-atoms : T (areAtoms L B (questionAt B) (atoms B))
+      sound-atoms = right-atoms L room _ _ (sound-question .each)

@@ -1,0 +1,82 @@
+-- What a stored book says (01, "Stored book"): the decoding has a value for every list of bytes. When it is to be
+-- believed is the matter of `Refusals` and `Verdict`.
+use mathlib.Core.List.{List, [], _∷_}
+use Prim.Native.Nat.{ℕ, zero, suc, _+_, _*_}
+use lib.ListN.{take, drop}
+use Rattle.covering.specs.Term.{Question}
+use Rattle.covering.specs.Record.{Layout, desk, atomsAt}
+use Rattle.covering.specs.Rule.{Rule}
+use Rattle.reading.specs.Word.{byte}
+use Rattle.reading.specs.Header.{headerSize, relations, constants, rules, atoms, allowed, questionAt, atomSize}
+use Rattle.reading.specs.Header.{atomsRange, atomPlaces, variables}
+
+pub record Book : Type 0 where
+  -- the number of places of each relation
+  pub places : List ℕ
+  pub constants : ℕ
+  pub rules : List Rule
+  pub question : Question
+  pub allowed : ℕ
+
+-- "A rule: two bytes, the body's and the head's atom counts, .., then body atoms, then head atoms."
+abbrev pub bodyCount : List ℕ → ℕ → ℕ
+bodyCount B s = byte B s
+
+abbrev pub headCount : List ℕ → ℕ → ℕ
+headCount B s = byte B (s + 1)
+
+abbrev pub bodyAt : List ℕ → ℕ → ℕ
+bodyAt B s = s + 2
+
+abbrev pub headAt : List ℕ → ℕ → ℕ
+headAt B s = s + 2 + atomSize * bodyCount B s
+
+-- where the rule at s ends
+abbrev pub ruleEnd : List ℕ → ℕ → ℕ
+ruleEnd B s = s + 2 + atomSize * (bodyCount B s + headCount B s)
+
+unfoldable pub ruleAt : List ℕ → ℕ → Rule
+ruleAt B s =
+    record { body = atomsAt desk B (bodyAt B s) (bodyCount B s); head = atomsAt desk B (headAt B s) (headCount B s) }
+
+-- n rules, one after the other, from s on: the rules, and where they end
+unfoldable pub rulesFrom : List ℕ → ℕ → ℕ → List Rule
+rulesFrom B s zero = []
+rulesFrom B s (suc n) = ruleAt B s ∷ rulesFrom B (ruleEnd B s) n
+
+unfoldable pub after : List ℕ → ℕ → ℕ → ℕ
+after B s zero = s
+after B s (suc n) = after B (ruleEnd B s) n
+
+-- "The offsets are 18, 18 + P, and wherever the rules end."
+abbrev pub rulesStart : List ℕ → ℕ
+rulesStart B = headerSize + relations B
+
+-- where rule k starts; at k = R, where the rules end
+abbrev pub ruleStart : List ℕ → ℕ → ℕ
+ruleStart B k = after B (rulesStart B) k
+
+-- the number of places of relation r
+abbrev pub placesOf : List ℕ → ℕ → ℕ
+placesOf B r = byte B (headerSize + r)
+
+unfoldable pub bookOf : List ℕ → Book
+bookOf B =
+    record {
+      places = take (relations B) (drop headerSize B);
+      constants = constants B;
+      rules = rulesFrom B (rulesStart B) (rules B);
+      question = atomsAt desk B (questionAt B) (atoms B);
+      allowed = allowed B;
+    }
+
+-- what the atoms of this book keep to
+abbrev pub layoutOf : List ℕ → Layout
+layoutOf B =
+    record {
+      atoms = atomsRange .most;
+      relations = relations B;
+      places = atomPlaces;
+      variables = variables;
+      constants = constants B;
+    }

@@ -1,0 +1,87 @@
+-- When a book is refused (01, "Refusal numbers"): for each of the numbers 2 to 7 what "number n applies at place p"
+-- says, in the table's words. A place is an offset from the book's first byte.
+use mathlib.Core.Path.{_≡_}
+use mathlib.Core.Bool.{Bool, cond, _&&_, _||_}
+use mathlib.Core.List.{List}
+use Prim.Native.Nat.{ℕ, _+_, _*_, _<_, _≤_}
+use lib.Dec.{T, eqb, ltb, leb}
+use lib.ListN.{length}
+use Rattle.reading.specs.Word.{byte}
+use Rattle.reading.specs.Header.{headerSize, relations, constants, rules, atoms, allowed, relationsAt, rulesAt}
+use Rattle.reading.specs.Header.{questionAt, total, Outside, relationsRange, constantsRange, rulesRange}
+use Rattle.reading.specs.Header.{atomsRange, allowedRange, placesRange, bodyRange, headRange, atomSize}
+use Rattle.reading.specs.Header.{atomPlaces, variables}
+use Rattle.reading.specs.Book.{bodyCount, headCount, bodyAt, headAt, ruleEnd, ruleStart, placesOf}
+
+-- 2: "book under 18 bytes"
+abbrev pub Short : List ℕ → Type 0
+Short B = length B < headerSize
+
+-- 3: "P, C, R, N or L outside the table"
+pub data OutsideTable (B : List ℕ) : Type 0 where
+  relations-out : Outside relationsRange (relations B) → OutsideTable B
+  constants-out : Outside constantsRange (constants B) → OutsideTable B
+  rules-out : Outside rulesRange (rules B) → OutsideTable B
+  atoms-out : Outside atomsRange (atoms B) → OutsideTable B
+  allowed-out : Outside allowedRange (allowed B) → OutsideTable B
+
+-- 4: "relations' offset not 18; rules' offset not 18 + P; question's offset below the rules'; total not question's
+-- offset + 5N; total not the book's length". The sums are of natural numbers, not cut to 16 bits.
+pub data OffsetWrong (B : List ℕ) : Type 0 where
+  relations-not : (relationsAt B ≡ headerSize → ⊥) → OffsetWrong B
+  rules-not : (rulesAt B ≡ headerSize + relations B → ⊥) → OffsetWrong B
+  question-below : questionAt B < rulesAt B → OffsetWrong B
+  total-not : (total B ≡ questionAt B + atomSize * atoms B → ⊥) → OffsetWrong B
+  length-not : (total B ≡ length B → ⊥) → OffsetWrong B
+
+-- 5: "a relation's places not 1 to 4", at "that byte"
+pub record PlacesWrong (B : List ℕ) (p : ℕ) : Type 0 where
+  pub relation : ℕ
+  pub below : relation < relations B
+  pub at : p ≡ headerSize + relation
+  pub wrong : Outside placesRange (placesOf B relation)
+
+-- 6: "a rule's counts not 1 to 4, or the rule runs past the question's offset", at "the rule's first byte"; "or the
+-- rules end before that offset", at "where they end". "A rule whose two count bytes don't both fit runs past": it ends
+-- two bytes after its start at the least, whatever stands there.
+pub data RuleWrong (B : List ℕ) (p : ℕ) : Type 0 where
+  body-count : (k : ℕ) → k < rules B → p ≡ ruleStart B k → Outside bodyRange (bodyCount B p) → RuleWrong B p
+  head-count : (k : ℕ) → k < rules B → p ≡ ruleStart B k → Outside headRange (headCount B p) → RuleWrong B p
+  runs-past : (k : ℕ) → k < rules B → p ≡ ruleStart B k → questionAt B < ruleEnd B p → RuleWrong B p
+  end-before : p ≡ ruleStart B (rules B) → p < questionAt B → RuleWrong B p
+
+-- where the atoms of the book stand: in bodies, in heads and in the question
+pub data AtomOf (B : List ℕ) (i : ℕ) : Type 0 where
+  in-body : (k j : ℕ) → k < rules B → j < bodyCount B (ruleStart B k)
+      → i ≡ bodyAt B (ruleStart B k) + atomSize * j → AtomOf B i
+  in-head : (k j : ℕ) → k < rules B → j < headCount B (ruleStart B k)
+      → i ≡ headAt B (ruleStart B k) + atomSize * j → AtomOf B i
+  in-question : (j : ℕ) → j < atoms B → i ≡ questionAt B + atomSize * j → AtomOf B i
+
+-- "A used place holds 0 to 31 for a variable or 128 to 127 + C for a constant; an unused place holds 255."
+abbrev pub usedAllowed : ℕ → ℕ → Bool
+usedAllowed C b = ltb b variables || (leb 128 b && ltb b (128 + C))
+
+abbrev pub placeAllowed : ℕ → Bool → ℕ → Bool
+placeAllowed C used b = cond used (usedAllowed C b) (eqb b 255)
+
+-- 7: "a relation number or place byte not allowed", at "that byte": here of the atom at i. The relation says how many
+-- places are used, so of an atom with a bad relation number that byte alone is judged.
+pub data AtomWrong (B : List ℕ) (i p : ℕ) : Type 0 where
+  relation : relations B ≤ byte B i → p ≡ i → AtomWrong B i p
+  place : byte B i < relations B → (w : ℕ) → w < atomPlaces → p ≡ i + 1 + w
+      → (T (placeAllowed (constants B) (ltb w (placesOf B (byte B i))) (byte B p)) → ⊥) → AtomWrong B i p
+
+pub record ByteWrong (B : List ℕ) (p : ℕ) : Type 0 where
+  pub atom : ℕ
+  pub isAtom : AtomOf B atom
+  pub wrong : AtomWrong B atom p
+
+-- "| no. | when | place |"
+pub data Applies (B : List ℕ) : ℕ → ℕ → Type 0 where
+  two : Short B → Applies B 2 0
+  three : OutsideTable B → Applies B 3 0
+  four : OffsetWrong B → Applies B 4 0
+  five : {p : ℕ} → PlacesWrong B p → Applies B 5 p
+  six : {p : ℕ} → RuleWrong B p → Applies B 6 p
+  seven : {p : ℕ} → ByteWrong B p → Applies B 7 p

@@ -1,0 +1,121 @@
+-- What becomes of a book (01, "Refusal numbers"): "The smallest applicable number among 1 to 7 wins, and within it the
+-- earliest place." First as a statement over the conditions of `Refusals`, then as a computation. That the computation
+-- meets the statement, for every list of bytes, is proved in `proofs/Exact`.
+use mathlib.Core.Path.{_≡_}
+use mathlib.Core.Bool.{Bool, cond, _&&_}
+use mathlib.Core.Logic.{_⊎_}
+use mathlib.Core.List.{List}
+use mathlib.Core.Option.{Option, none, some}
+use Prim.Native.Nat.{ℕ, zero, suc, _+_, _*_, _<_, _≤_}
+use lib.Dec.{eqb, ltb, leb}
+use lib.ListN.{length}
+use Rattle.covering.specs.Lists.{orElse}
+use Rattle.reading.specs.declared.Header.{Header}
+use Rattle.reading.specs.declared.Refusal.{Refusal}
+use Rattle.reading.specs.Word.{byte}
+use Rattle.reading.specs.Header.{headerSize, relations, constants, rules, atoms, questionAt, headerOf, inside}
+use Rattle.reading.specs.Header.{relationsRange, constantsRange, rulesRange, atomsRange, allowedRange}
+use Rattle.reading.specs.Header.{placesRange, bodyRange, headRange, atomSize, atomPlaces}
+use Rattle.reading.specs.Book.{bodyCount, headCount, bodyAt, ruleEnd, rulesStart, placesOf}
+use Rattle.reading.specs.Refusals.{placeAllowed, Applies}
+
+-- "0 means complete"; of the book alone, that nothing is wrong with it
+abbrev pub accepted : Refusal
+accepted = record { number = 0; place = 0 }
+
+-- number n at place p comes no later than number m at place q
+abbrev pub NoLater : Refusal → ℕ → ℕ → Type 0
+NoLater r m q = (r .number < m) ⊎ ((r .number ≡ m) × (r .place ≤ q))
+
+-- "The smallest applicable number .. wins, and within it the earliest place."
+pub data IsVerdict (B : List ℕ) (r : Refusal) : Type 0 where
+  sound : r ≡ accepted → ((n p : ℕ) → Applies B n p → ⊥) → IsVerdict B r
+  refused : Applies B (r .number) (r .place) → ((m q : ℕ) → Applies B m q → NoLater r m q) → IsVerdict B r
+
+-- the place i, where the test is not passed
+abbrev pub unless : Bool → ℕ → Option ℕ
+unless b i = cond b none (some i)
+
+-- 3: "P, C, R, N or L outside the table"
+unfoldable pub inTable : Header → Bool
+inTable h =
+    inside relationsRange (h .relations)
+    && (inside constantsRange (h .constants)
+    && (inside rulesRange (h .rules) && (inside atomsRange (h .atoms) && inside allowedRange (h .allowed))))
+
+-- 4, of a book of so many bytes: the five parts of the table's line, in its order
+unfoldable pub offsetsRight : Header → ℕ → Bool
+offsetsRight h size =
+    eqb (h .table) headerSize
+    && (eqb (h .start) (headerSize + h .relations)
+    && (leb (h .start) (h .question)
+    && (eqb (h .total) (h .question + atomSize * h .atoms) && eqb (h .total) size)))
+
+-- 5: the first wrong byte among the n from i on
+unfoldable pub wrongPlaces : List ℕ → ℕ → ℕ → Option ℕ
+wrongPlaces B i zero = none
+wrongPlaces B i (suc n) = let r = wrongPlaces B (i + 1) n in orElse (unless (inside placesRange (byte B i)) i) r
+
+-- 6: the rule at s has its counts and ends no later than e
+unfoldable pub ruleRight : List ℕ → ℕ → ℕ → Bool
+ruleRight B e s =
+    inside bodyRange (bodyCount B s) && (inside headRange (headCount B s) && leb (ruleEnd B s) e)
+
+-- the first wrong rule among the n from s on, or where they end, if that is before e
+unfoldable pub wrongRule : List ℕ → ℕ → ℕ → ℕ → Option ℕ
+wrongRule B e s zero = unless (leb e s) s
+wrongRule B e s (suc n) = let r = wrongRule B e (ruleEnd B s) n in orElse (unless (ruleRight B e s) s) r
+
+-- 7: the first wrong byte among the n places from place w on, of an atom whose places start at i, u of them used
+unfoldable pub wrongPlace : List ℕ → ℕ → ℕ → ℕ → ℕ → Option ℕ
+wrongPlace B u i w zero = none
+wrongPlace B u i w (suc n) =
+    let r = wrongPlace B u i (w + 1) n in
+    orElse (unless (placeAllowed (constants B) (ltb w u) (byte B (i + w))) (i + w)) r
+
+-- in the atom at i
+unfoldable pub wrongInAtom : List ℕ → ℕ → Option ℕ
+wrongInAtom B i =
+    let r = wrongPlace B (placesOf B (byte B i)) (i + 1) 0 atomPlaces in
+    cond (ltb (byte B i) (relations B)) r (some i)
+
+-- in n atoms from i on
+unfoldable pub wrongInAtoms : List ℕ → ℕ → ℕ → Option ℕ
+wrongInAtoms B i zero = none
+wrongInAtoms B i (suc n) = let r = wrongInAtoms B (i + atomSize) n in orElse (wrongInAtom B i) r
+
+-- in the atoms of n rules from s on
+unfoldable pub wrongInRules : List ℕ → ℕ → ℕ → Option ℕ
+wrongInRules B s zero = none
+wrongInRules B s (suc n) =
+    let r = wrongInRules B (ruleEnd B s) n in
+    orElse (wrongInAtoms B (bodyAt B s) (bodyCount B s + headCount B s)) r
+
+unfoldable pub wrongByte : List ℕ → Option ℕ
+wrongByte B = orElse (wrongInRules B (rulesStart B) (rules B)) (wrongInAtoms B (questionAt B) (atoms B))
+
+-- number n at the place that was found, or what comes after
+abbrev pub refuse : ℕ → Option ℕ → Refusal → Refusal
+refuse n none r = r
+refuse n (some p) r = record { number = n; place = p }
+
+-- number n at the place that was found, or nothing
+abbrev pub told : ℕ → Option ℕ → Refusal
+told n o = refuse n o accepted
+
+-- what is wrong after the header
+unfoldable pub contents : List ℕ → Refusal
+contents B =
+    refuse 5 (wrongPlaces B headerSize (relations B))
+    (refuse 6 (wrongRule B (questionAt B) (rulesStart B) (rules B)) (told 7 (wrongByte B)))
+
+-- the numbers in their order, each with the earliest place at which it applies
+unfoldable pub verdict : List ℕ → Refusal
+verdict B =
+    refuse 2 (unless (leb headerSize (length B)) 0)
+    (refuse 3 (unless (inTable (headerOf B)) 0)
+    (refuse 4 (unless (offsetsRight (headerOf B) (length B)) 0) (contents B)))
+
+-- a book that is not refused
+abbrev pub Sound : List ℕ → Type 0
+Sound B = verdict B .number ≡ 0

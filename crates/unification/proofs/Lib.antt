@@ -1,0 +1,31 @@
+-- The laws of one-step rewritings, for the code of `unify` and for the layers above.
+
+-- lists, pairs of terms, choices, moved rules
+pub mod Collected
+pub mod Pairs
+pub mod Choices
+pub mod Moved
+-- the classes are the least; validity, and 01's words for it; which term stands for a class does not matter
+pub mod Classes
+pub mod Valid
+pub mod Means
+pub mod Same
+-- the list of rewritings: what stands in it, in which order, from a number on, how large; k does not matter
+pub mod Listed
+pub mod Numbers
+pub mod Following
+pub mod Sizes
+pub mod Shift
+-- a step is sound and complete for rule application
+pub mod Sound
+pub mod Complete
+-- the list is exactly the published one
+pub mod Puts
+pub mod Pieces
+pub mod Hits
+pub mod Unifiers
+pub mod Selected
+pub mod Digits
+pub mod Exactly
+-- the paper's and the sources' examples
+pub mod Examples
