@@ -1,6 +1,6 @@
 -- The laws that the functions of the stored book cite.
-pub mod Steps
-pub mod Known
+pub mod JudgingSteps
+pub mod JudgedHeader
 pub mod Stores
 -- what each contract determines
 pub mod Determined

@@ -6,7 +6,8 @@ ghost use mathlib.Core.Path.{_≡_};
 ghost use Prim.Native.Nat.{_+_, _≤_};
 ghost use lib.ListN.{length};
 ghost use Rattle.reading.specs.Header.{HeaderRead};
-ghost use Rattle.reading.specs.Verdict.{verdict, Sound};
+ghost use Rattle.reading.specs.Verdict.{verdict};
+ghost use Rattle.reading.specs.Verdict.{SoundBook};
 ghost use Rattle.book.specs.Parts.{StartsAt, partsAt};
 ghost use Rattle.covering.specs.Record.{desk};
 ghost use Rattle.cover.specs.Buffer.{heldIn};
@@ -75,7 +76,7 @@ pub fn check(book: &[u8]) -> Refusal
 
 // Where each rule of a sound book starts, and where the rules end.
 pub fn starts(book: &[u8]) -> [usize; 33]
-    requires { ⌜ Sound (now book) ⌝ }
+    requires { ⌜ SoundBook (now book) ⌝ }
     ensures { λ r. ⌜ StartsAt (now (book .entry)) r ⌝ }
 {
     let h = read(book);
@@ -109,7 +110,7 @@ pub fn rule_at(book: &[u8], s: usize) -> Parts
 
 // The question of a sound book as a member record, the rest 255.
 pub fn question(book: &[u8]) -> [u8; 56]
-    requires { ⌜ Sound (now book) ⌝ }
+    requires { ⌜ SoundBook (now book) ⌝ }
     ensures { λ r. ⌜ r ≡ heldIn desk 56 (bookOf (now (book .entry)) .question) ⌝ }
 {
     let h = read(book);

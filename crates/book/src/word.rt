@@ -3,7 +3,7 @@ ghost use mathlib.Core.Path.{_≡_};
 ghost use Prim.Native.Nat.{_+_, _<_, _≤_};
 ghost use lib.ListN.{length};
 ghost use Rattle.reading.specs.Word.{word as wordAt};
-ghost use Rattle.reading.specs.Header.{within as isWithin};
+ghost use Rattle.reading.specs.Header.{inBounds as isWithin};
 
 // The bytes of a header, and of an atom with its places.
 pub const HEADER: usize = 18;

@@ -21,7 +21,8 @@ use Rattle.cover.specs.Building.{subOf}
 use Rattle.covering.proofs.Tests.{either, both, fst-of, snd-of, true→T, T→true, no→false}
 use Rattle.covering.proofs.Terms.{atom-path, eqAtom→eq, eqAtom-refl}
 use Rattle.covering.proofs.Bytes.{term-var, term-con, atom-used, term-constant}
-use Rattle.covering.proofs.RoundTrip.{Apart, atoms-read, atoms-back}
+use Rattle.covering.proofs.RoundTrip.{atoms-read, atoms-back}
+use Rattle.covering.proofs.RoundTrip.{TellsApart}
 use Rattle.covering.proofs.Lengths.{atom-long}
 use Rattle.covering.proofs.Fitting.{term-is-used}
 
@@ -29,7 +30,7 @@ further : (i k : ℕ) → i + suc k ≡ i + 1 + k
 further i k = omega arith
 
 -- a sound atom's bytes
-pub atom-bytes : (L : Layout) → Apart L → (B : List ℕ) (i : ℕ) → AtomIn L B i
+pub atom-bytes : (L : Layout) → TellsApart L → (B : List ℕ) (i : ℕ) → AtomIn L B i
     → take (size L) (drop i B) ≡ atomBytes L (atomAt L B i)
 unfolding atomsAt areAtoms
 atom-bytes L ap-L B i a =
@@ -67,7 +68,7 @@ module _ (L : Layout) (B C : List ℕ) where
             (args-same (L .places) (i + 1) (k + 1)
             (λ j lt. rw (← further i j, ← further k j) (h (suc j) (omega arith))))
 
-    pub other-bytes : Apart L → AtomIn L B i → AtomIn L C k → (j : ℕ) → j < size L
+    pub other-bytes : TellsApart L → AtomIn L B i → AtomIn L C k → (j : ℕ) → j < size L
         → (getD B (i + j) 0 ≡ getD C (k + j) 0 → ⊥) → eqAtom (atomAt L B i) (atomAt L C k) ≡ false
     other-bytes ap-L a b j lt ne = no→false _ (λ t. ne (at (eqAtom→eq _ _ t)))
       where
@@ -120,7 +121,7 @@ free-at (suc w) zero lt = refl
 free-at (suc w) (suc k) lt = free-at w k (omega arith)
 
 -- the bytes of a sound atom's places, each on the substitution: a place that is not used stays 255
-module _ (L : Layout) (ap-L : Apart L) (s : Sub) (B : List ℕ) where
+module _ (L : Layout) (ap-L : TellsApart L) (s : Sub) (B : List ℕ) where
   abbrev pub byteOn : ℕ → ℕ
   byteOn b = byteOf (on-term s (termOf b))
 
@@ -184,7 +185,7 @@ set-agrees A D j v lt h e =
     (getD-set-same A j v 0 lt ∙ e)
 
 -- an atom's own bytes
-pub bytes-in : (L : Layout) → Apart L → (B : List ℕ) (a : Atom) → AtomFits L a → B ≡ atomBytes L a
+pub bytes-in : (L : Layout) → TellsApart L → (B : List ℕ) (a : Atom) → AtomFits L a → B ≡ atomBytes L a
     → AtomIn L B 0 × (atomAt L B 0 ≡ a)
 unfolding atomsAt areAtoms
 bytes-in L ap-L B a f e =

@@ -12,12 +12,14 @@ use lib.ListN.{length, getD, length-append}
 use Rattle.covering.specs.Lists.{_∈_}
 use Rattle.covering.specs.Term.{Atom, Question, Sub, on-atom, on-question, terms, eqAtom}
 use Rattle.covering.specs.Form.{dedup, firsts, numbering, form}
-use Rattle.covering.specs.Record.{Layout, desk, size, questionOf, AtomFits, Fits, Sound}
-use Rattle.cover.specs.Buffer.{heldIn, Room}
+use Rattle.covering.specs.Record.{Layout, desk, size, questionOf, AtomFits, Fits}
+use Rattle.covering.specs.Record.{SoundRecord}
+use Rattle.cover.specs.Buffer.{heldIn}
+use Rattle.cover.specs.Buffer.{RoomLeft}
 use Rattle.cover.specs.Building.{has, added, newNumber, subOf}
 use Rattle.covering.proofs.Lists.{map-append}
 use Rattle.covering.proofs.Tests.{either}
-use Rattle.covering.proofs.RoundTrip.{Apart}
+use Rattle.covering.proofs.RoundTrip.{TellsApart}
 use Rattle.cover.proofs.Padded.{held-question, held-room, held-sound}
 use Rattle.covering.proofs.RoundTrip.{desk-apart}
 use Rattle.cover.proofs.Leftward.{added-old, added-new}
@@ -35,7 +37,7 @@ pub grows-none : (L : Layout) (n : ℕ) (B : List ℕ) (more : ℕ) → B ≡ he
 grows-none L n B more e h =
     record { bytes = e; each = λ a m. absurd (List·Memᴰ·not-nil m); room = omega arith }
 
-module _ (L : Layout) (ap-L : Apart L) (n : ℕ) (B : List ℕ) (A : Question) (more : ℕ) (g : Grows L n B A more) where
+module _ (L : Layout) (ap-L : TellsApart L) (n : ℕ) (B : List ℕ) (A : Question) (more : ℕ) (g : Grows L n B A more) where
   pub grows-question : questionOf L B ≡ A
   grows-question = ap (questionOf L) (g .bytes) ∙ held-question L n A ap-L (g .each)
 
@@ -43,15 +45,15 @@ module _ (L : Layout) (ap-L : Apart L) (n : ℕ) (B : List ℕ) (A : Question) (
   fewer : (k : ℕ) → k ≤ length A + more → 1 + k * size L ≤ n
   fewer k h = omega (arith, g .room, mul-le-mul-right {m = k} {n = length A + more} (size L) h)
 
-  pub grows-room : 0 < more → Room L n B
+  pub grows-room : 0 < more → RoomLeft L n B
   grows-room h =
-      subst (Room L n) (sym (g .bytes)) (held-room L n A ap-L (g .each) (fewer (length A + 1) (omega arith)))
+      subst (RoomLeft L n) (sym (g .bytes)) (held-room L n A ap-L (g .each) (fewer (length A + 1) (omega arith)))
 
   -- once it is built
-  pub grows-sound : 1 ≤ length A → length A ≤ L .atoms → Sound L B
+  pub grows-sound : 1 ≤ length A → length A ≤ L .atoms → SoundRecord L B
   grows-sound some most =
       let f : Fits L A = record { some-atom = some; most = most; each = g .each } in
-      subst (Sound L) (sym (g .bytes)) (held-sound L n A ap-L f (fewer (length A) (omega arith)))
+      subst (SoundRecord L) (sym (g .bytes)) (held-sound L n A ap-L f (fewer (length A) (omega arith)))
 
   module _ (R : List ℕ) (a : Atom) (f : AtomFits L a) (h : 0 < more) where
     -- after `put_atom`
@@ -96,7 +98,7 @@ module _ (L : Layout) (ap-L : Apart L) (n : ℕ) (B : List ℕ) (A : Question) (
             (grows-put (held ∙ ap (heldIn L n) (new ∙ ap (λ K. K ++ a ∷ []) (sym grows-question))))
 
 -- an atom more of a question on a substitution, written by another that is the same on it
-pub grows-on : (L : Layout) → Apart L → (n : ℕ) (s t : Sub) (B R : List ℕ) (P : Question) (a : Atom) (more : ℕ)
+pub grows-on : (L : Layout) → TellsApart L → (n : ℕ) (s t : Sub) (B R : List ℕ) (P : Question) (a : Atom) (more : ℕ)
     → Grows L n B (on-question s P) more → 0 < more → on-atom t a ≡ on-atom s a → AtomFits L (on-atom t a)
     → R ≡ heldIn L n (questionOf L B ++ on-atom t a ∷ []) → Grows L n R (on-question s (P ++ a ∷ [])) (more - 1)
 grows-on L ap-L n s t B R P a more g h same f e =
@@ -106,8 +108,8 @@ grows-on L ap-L n s t B R P a more g h same f e =
     (grows-put L ap-L n B (on-question s P) more g R (on-atom t a) f h e)
 
 -- the form of a sound record, where it has room
-module _ (L : Layout) (ap-L : Apart L) (some-place : 1 ≤ L .places) (n : ℕ) (room : 1 + L .atoms * size L ≤ n)
-    (B : List ℕ) (s : Sound L B) where
+module _ (L : Layout) (ap-L : TellsApart L) (some-place : 1 ≤ L .places) (n : ℕ) (room : 1 + L .atoms * size L ≤ n)
+    (B : List ℕ) (s : SoundRecord L B) where
   fits : Fits L (questionOf L B)
   fits = sound-fits L ap-L B some-place s
 
@@ -115,10 +117,10 @@ module _ (L : Layout) (ap-L : Apart L) (some-place : 1 ≤ L .places) (n : ℕ) 
   short A f = omega (arith, room, mul-le-mul-right {m = length A} {n = L .atoms} (size L) (f .most))
 
   -- with equal atoms dropped
-  pub dropped-sound : (K : List ℕ) → K ≡ heldIn L n (dedup (questionOf L B)) → Sound L K
+  pub dropped-sound : (K : List ℕ) → K ≡ heldIn L n (dedup (questionOf L B)) → SoundRecord L K
   dropped-sound K e =
       let f = dedup-fits L (questionOf L B) fits in
-      subst (Sound L) (sym e) (held-sound L n (dedup (questionOf L B)) ap-L f (short _ f))
+      subst (SoundRecord L) (sym e) (held-sound L n (dedup (questionOf L B)) ap-L f (short _ f))
 
   pub dropped-question : (K : List ℕ) → K ≡ heldIn L n (dedup (questionOf L B))
       → questionOf L K ≡ dedup (questionOf L B)
@@ -129,10 +131,10 @@ module _ (L : Layout) (ap-L : Apart L) (some-place : 1 ≤ L .places) (n : ℕ) 
   -- what a caller of `in_form` knows of its result
   module _ (variables : L .atoms * L .places ≤ L .variables) (R : List ℕ) (e : R ≡ heldIn L n (form (questionOf L B)))
     where
-      pub form-sound : Sound L R
+      pub form-sound : SoundRecord L R
       form-sound =
           let f = form-fits L (questionOf L B) variables fits in
-          subst (Sound L) (sym e) (held-sound L n (form (questionOf L B)) ap-L f (short _ f))
+          subst (SoundRecord L) (sym e) (held-sound L n (form (questionOf L B)) ap-L f (short _ f))
 
       pub form-question : questionOf L R ≡ form (questionOf L B)
       form-question =
@@ -140,7 +142,7 @@ module _ (L : Layout) (ap-L : Apart L) (some-place : 1 ≤ L .places) (n : ℕ) 
           ∙ held-question L n (form (questionOf L B)) ap-L (form-fits L (questionOf L B) variables fits .each)
 
 -- the table of a sound record's new numbers: an atom on it is that atom renumbered, and fits
-module _ (B : List ℕ) (s : Sound desk B) (table : List ℕ)
+module _ (B : List ℕ) (s : SoundRecord desk B) (table : List ℕ)
     (each : (n : ℕ) → n < 64 → getD table n 0 ≡ newNumber (firsts (terms (questionOf desk B))) n) (a : Atom)
     (m : a ∈ questionOf desk B) where
   pub table-numbers : on-atom (subOf table) a ≡ on-atom (numbering (questionOf desk B)) a

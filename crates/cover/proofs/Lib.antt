@@ -3,7 +3,7 @@
 -- the map as the code holds it; the search, a candidate and an atom at a time
 pub mod Maps
 pub mod Ahead
-pub mod Steps
+pub mod SearchSteps
 -- a record in a buffer that is filled atom by atom
 pub mod Padded
 pub mod Within

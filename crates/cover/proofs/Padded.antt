@@ -11,10 +11,13 @@ use lib.Seq.{paste, take-at, drop-append-add}
 use Rattle.covering.specs.Lists.{_∈_, gather}
 use Rattle.covering.specs.Term.{Atom, Question}
 use Rattle.covering.specs.Record.{Layout, size, atomsAt, areAtoms, questionOf, atomBytes, recordBytes}
-use Rattle.covering.specs.Record.{AtomFits, Fits, Sound}
-use Rattle.cover.specs.Buffer.{AtomsIn, heldIn, Room}
+use Rattle.covering.specs.Record.{AtomFits, Fits}
+use Rattle.covering.specs.Record.{SoundRecord}
+use Rattle.cover.specs.Buffer.{AtomsIn, heldIn}
+use Rattle.cover.specs.Buffer.{RoomLeft}
 use Rattle.covering.proofs.Lengths.{count-atoms, atoms-long, record-is, record-long}
-use Rattle.covering.proofs.RoundTrip.{Apart, atoms-read, atoms-back}
+use Rattle.covering.proofs.RoundTrip.{atoms-read, atoms-back}
+use Rattle.covering.proofs.RoundTrip.{TellsApart}
 use Rattle.covering.proofs.Lists.{gather-append}
 use Rattle.covering.proofs.Slices.{rest-free}
 use Rattle.covering.proofs.Begun.{begun-record, begun-long}
@@ -37,7 +40,7 @@ module _ (L : Layout) (n : ℕ) (A : Question) where
   unfolding heldIn
   held-record = take-at (recordBytes L A) _ (1 + length A * size L) (record-long L A)
 
-  module _ (ap-L : Apart L) (each : (a : Atom) → a ∈ A → AtomFits L a) where
+  module _ (ap-L : TellsApart L) (each : (a : Atom) → a ∈ A → AtomFits L a) where
     read : (atomsAt L (heldIn L n A) 1 (length A) ≡ A) × T (areAtoms L (heldIn L n A) 1 (length A))
     unfolding heldIn recordBytes
     read = atoms-read L ap-L (heldIn L n A) 1 A (replicate (n - length (recordBytes L A)) 255) each refl
@@ -50,11 +53,11 @@ module _ (L : Layout) (n : ℕ) (A : Question) where
     held-atoms = rw held-count (read .1)
 
     -- what `put_atom` and `put_on` ask of a record under construction
-    pub held-room : 1 + (length A + 1) * size L ≤ n → Room L n (heldIn L n A)
+    pub held-room : 1 + (length A + 1) * size L ≤ n → RoomLeft L n (heldIn L n A)
     held-room h =
         record { holds = ap (heldIn L n) (sym held-question); atoms = held-atoms; room = rw held-count h }
 
-  pub held-sound : Apart L → Fits L A → 1 + length A * size L ≤ n → Sound L (heldIn L n A)
+  pub held-sound : TellsApart L → Fits L A → 1 + length A * size L ≤ n → SoundRecord L (heldIn L n A)
   held-sound ap-L fits h =
       record {
         some-atom = rw held-count (fits .some-atom);
@@ -109,7 +112,7 @@ module _ (L : Layout) (n : ℕ) (A : Question) (a : Atom) (s : List ℕ) where
       fewer = omega (arith, record-long L A, record-long L (A ++ a ∷ []), ap (λ k. k * size L) one-more)
 
 -- the same, of bytes that are a record under construction
-pub put-after : (L : Layout) (n : ℕ) (B : List ℕ) (a : Atom) (s : List ℕ) → Room L n B
+pub put-after : (L : Layout) (n : ℕ) (B : List ℕ) (a : Atom) (s : List ℕ) → RoomLeft L n B
     → take (size L) s ≡ atomBytes L a
     → paste (set B 0 (getD B 0 0 + 1)) (1 + getD B 0 0 * size L) s (size L) ≡ heldIn L n (questionOf L B ++ a ∷ [])
 put-after L n B a s r e =
@@ -120,7 +123,7 @@ put-after L n B a s r e =
     count = ap (λ x. getD x 0 0) (r .holds) ∙ held-count L n (questionOf L B)
 
 -- a record that a buffer begins with, copied to the front of n bytes of 255, is the record that they hold
-pub begun-held : (L : Layout) (B : List ℕ) → Apart L → Sound L B → (n : ℕ) → 1 + getD B 0 0 * size L ≤ n
+pub begun-held : (L : Layout) (B : List ℕ) → TellsApart L → SoundRecord L B → (n : ℕ) → 1 + getD B 0 0 * size L ≤ n
     → paste (replicate n 255) 0 B (1 + getD B 0 0 * size L) ≡ heldIn L n (questionOf L B)
 unfolding heldIn
 begun-held L B ap-L s n h =
@@ -129,7 +132,7 @@ begun-held L B ap-L s n h =
     ∙ ap (λ (k : ℕ). replicate (n - k) 255) (zero-add (1 + getD B 0 0 * size L) ∙ sym (begun-long L B)))
 
 -- sound atoms that stand elsewhere, copied behind their count, are the record of their question
-pub copied-held : (L : Layout) → Apart L → (B : List ℕ) (i n m : ℕ) → AtomsIn L B i n → n * size L ≤ m
+pub copied-held : (L : Layout) → TellsApart L → (B : List ℕ) (i n m : ℕ) → AtomsIn L B i n → n * size L ≤ m
     → paste (n ∷ replicate m 255) 1 (drop i B) (n * size L) ≡ heldIn L (suc m) (atomsAt L B i n)
 unfolding heldIn
 copied-held L ap-L B i n m a h =

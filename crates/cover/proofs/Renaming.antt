@@ -14,7 +14,8 @@ use Rattle.covering.specs.Lists.{_∈_}
 use Rattle.covering.specs.Term.{Term, var, con, Atom, Question, on-term, on-atom, terms}
 use Rattle.covering.specs.Form.{firsts, index, numbering}
 use Rattle.covering.specs.Record.{desk, termOf, argsAt, TermFits, Fits}
-use Rattle.cover.specs.Building.{has, seen, allSeen, newNumber, Numbered, subOf}
+use Rattle.cover.specs.Building.{has, seen, allSeen, newNumber, subOf}
+use Rattle.cover.specs.Building.{NumberTable}
 use Rattle.covering.proofs.Lists.{any-in, any-out}
 use Rattle.covering.proofs.Tests.{either, cond-yes, true→T, T→true, false→no}
 use Rattle.covering.proofs.Terms.{terms-in, on-atom-same}
@@ -93,29 +94,29 @@ number-kept S t n ne = go (either (has eqb S n))
     go (inr e) = number-none (S ++ t ∷ []) n (more false e) ∙ sym (number-none S n e)
 
 -- no variable is seen yet
-pub numbered-none : Numbered [] (replicate 64 255) 0
+pub numbered-none : NumberTable [] (replicate 64 255) 0
 unfolding newNumber
 numbered-none = record { each = λ n h. getD-replicate 64 n 255 0 h; count = refl }
 
 -- one more term
-module _ (S table : List ℕ) (given t : ℕ) (k : Numbered S table given) where
-  pub seen-constant : 128 ≤ t → Numbered (seen S (termOf t)) table given
+module _ (S table : List ℕ) (given t : ℕ) (k : NumberTable S table given) where
+  pub seen-constant : 128 ≤ t → NumberTable (seen S (termOf t)) table given
   unfolding seen
   seen-constant h = rw (term-con t h) k
 
-  pub seen-again : t < 64 → (getD table t 0 ≡ 255 → ⊥) → Numbered (seen S (termOf t)) table given
+  pub seen-again : t < 64 → (getD table t 0 ≡ 255 → ⊥) → NumberTable (seen S (termOf t)) table given
   unfolding seen
-  seen-again h ne = subst (λ l. Numbered l table given) (sym same) k
+  seen-again h ne = subst (λ l. NumberTable l table given) (sym same) k
     where
       same : seen S (termOf t) ≡ S
       same = ap (seen S) (term-var t (omega arith)) ∙ added-old eqb S t (is-there S t (λ e. ne (k .each t h ∙ e)))
 
   pub seen-first : t < 64 → t < length table → given < 64 → getD table t 0 ≡ 255
-      → Numbered (seen S (termOf t)) (set table t given) (given + 1)
+      → NumberTable (seen S (termOf t)) (set table t given) (given + 1)
   unfolding seen
   seen-first h in-table few e =
       subst
-      (λ l. Numbered l (set table t given) (given + 1))
+      (λ l. NumberTable l (set table t given) (given + 1))
       (sym (ap (seen S) (term-var t (omega arith)) ∙ added-new eqb S t none))
       record { each = λ n lt. go n lt (either (eqb t n)); count = omega (arith, k .count, length-append S (t ∷ [])) }
     where

@@ -6,9 +6,10 @@ use Prim.Native.Nat.{ℕ, _+_, _*_, _-_, _≤_, _<_}
 use native.Mathlib.Omega.{arith}
 use lib.Dec.{T}
 use lib.ListN.{length, getD}
-use Rattle.covering.specs.Record.{Layout, size, isAtom, areAtoms, Sound}
+use Rattle.covering.specs.Record.{Layout, size, isAtom, areAtoms}
+use Rattle.covering.specs.Record.{SoundRecord}
 use Rattle.cover.specs.Buffer.{AtomsIn}
-use Rattle.covering.proofs.RoundTrip.{Apart}
+use Rattle.covering.proofs.RoundTrip.{TellsApart}
 use Rattle.covering.proofs.Places.{sound-more}
 use Rattle.covering.proofs.Wider.{Wider, same-size, atoms-wider}
 
@@ -28,11 +29,11 @@ in-rest L B i n a =
     back : n + 1 - 1 ≡ n
     back = omega arith
 
-pub sound-in : (L : Layout) (B : List ℕ) → Sound L B → AtomsIn L B 1 (getD B 0 0)
+pub sound-in : (L : Layout) (B : List ℕ) → SoundRecord L B → AtomsIn L B 1 (getD B 0 0)
 sound-in L B s = record { fits = s .fits; sound = s .atoms }
 
 -- what keeps to a layout keeps to a wider one
-pub in-wider : (L M : Layout) → Wider L M → Apart M → (B : List ℕ) (i n : ℕ) → AtomsIn L B i n → AtomsIn M B i n
+pub in-wider : (L M : Layout) → Wider L M → TellsApart M → (B : List ℕ) (i n : ℕ) → AtomsIn L B i n → AtomsIn M B i n
 in-wider L M w ap-M B i n a =
     record {
       fits = subst (λ s. i + n * s ≤ length B) (same-size L M w) (a .fits);

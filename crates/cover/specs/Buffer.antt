@@ -22,7 +22,7 @@ pub record AtomIn (L : Layout) (B : List ℕ) (i : ℕ) : Type 0 where
   pub sound : T (isAtom L B i)
 
 -- a record under construction in n bytes: sound atoms, none or more, the rest 255, with room for one atom more
-pub record Room (L : Layout) (n : ℕ) (B : List ℕ) : Type 0 where
+pub record RoomLeft (L : Layout) (n : ℕ) (B : List ℕ) : Type 0 where
   pub holds : B ≡ heldIn L n (questionOf L B)
   pub atoms : T (areAtoms L B 1 (getD B 0 0))
   pub room : 1 + (getD B 0 0 + 1) * size L ≤ n

@@ -38,7 +38,7 @@ unfoldable pub newNumber : List ℕ → ℕ → ℕ
 newNumber S n = cond (has eqb S n) (index S n) 255
 
 -- a table of new numbers and how many are given, for these variables
-pub record Numbered (S table : List ℕ) (given : ℕ) : Type 0 where
+pub record NumberTable (S table : List ℕ) (given : ℕ) : Type 0 where
   pub each : (n : ℕ) → n < 64 → getD table n 0 ≡ newNumber S n
   pub count : given ≡ length S
 

@@ -3,7 +3,7 @@
 
 -- how the search goes from candidate to candidate, and how it holds the map so far
 pub mod Candidates
-pub mod Held
+pub mod HeldMap
 -- atoms and records in a buffer, and how a form is built
 pub mod Buffer
 pub mod Building

@@ -7,9 +7,12 @@ ghost use lib.ListN.{getD};
 ghost use Rattle.covering.specs.Term.{on-term, on-atom, eqAtom, terms};
 ghost use Rattle.covering.specs.Form.{dedup, firsts, renumber, form};
 ghost use Rattle.covering.specs.Record.{desk, termOf, byteOf, atomAt, questionOf, atomBytes};
-ghost use Rattle.cover.specs.Buffer.{heldIn, AtomIn, Room, AtomsIn};
-ghost use Rattle.covering.specs.Record.{Sound, AtomFits};
-ghost use Rattle.cover.specs.Building.{has, added, seen, allSeen, newNumber, Numbered, subOf};
+ghost use Rattle.cover.specs.Buffer.{heldIn, AtomIn, AtomsIn};
+ghost use Rattle.cover.specs.Buffer.{RoomLeft};
+ghost use Rattle.covering.specs.Record.{AtomFits};
+ghost use Rattle.covering.specs.Record.{SoundRecord};
+ghost use Rattle.cover.specs.Building.{has, added, seen, allSeen, newNumber, subOf};
+ghost use Rattle.cover.specs.Building.{NumberTable};
 
 // The new numbers given so far, 255 for none yet, and how many there are.
 struct Numbers {
@@ -61,7 +64,7 @@ fn has_atom(kept: &[u8], from: &[u8], at: usize) -> bool
 
 // The record with the atom of from at `at` after its own atoms. From may be any bytes that have an atom there.
 pub fn put_atom(kept: [u8; 56], from: &[u8], at: usize) -> [u8; 56]
-    requires { ⌜ Room desk 56 kept × AtomIn desk (now from) at ⌝ }
+    requires { ⌜ RoomLeft desk 56 kept × AtomIn desk (now from) at ⌝ }
     ensures { λ r. ⌜ r ≡ heldIn desk 56 (questionOf desk kept ++ atomAt desk (now (from .entry)) at ∷ []) ⌝ }
 {
     let n = kept[0];
@@ -78,7 +81,7 @@ pub fn put_atom(kept: [u8; 56], from: &[u8], at: usize) -> [u8; 56]
 
 // The same where the atom is not among the record's own; else the record as it is.
 fn put_new(kept: [u8; 56], from: &[u8], at: usize) -> [u8; 56]
-    requires { ⌜ Room desk 56 kept × AtomIn desk (now from) at ⌝ }
+    requires { ⌜ RoomLeft desk 56 kept × AtomIn desk (now from) at ⌝ }
     ensures { λ r. ⌜ r ≡ heldIn desk 56 (added eqAtom (questionOf desk kept) (atomAt desk (now (from .entry)) at)) ⌝ }
 {
     if has_atom(&kept, from, at) {
@@ -89,7 +92,7 @@ fn put_new(kept: [u8; 56], from: &[u8], at: usize) -> [u8; 56]
 
 // The record with equal atoms dropped but for the first.
 fn drop_equal(member: &[u8]) -> [u8; 56]
-    requires { ⌜ Sound desk (now member) ⌝ }
+    requires { ⌜ SoundRecord desk (now member) ⌝ }
     ensures { λ r. ⌜ r ≡ heldIn desk 56 (dedup (questionOf desk (now (member .entry)))) ⌝ }
 {
     let mut kept = no_atoms();
@@ -108,7 +111,7 @@ fn drop_equal(member: &[u8]) -> [u8; 56]
 fn number_term(table: [u8; 64], count: u8, t: u8) -> Numbers
     requires { ⌜ (64 ≤ t → 128 ≤ t) × (count < 64) ⌝ }
     ensures { λ r. ⌜ (r .count ≤ count + 1)
-        × ((S : List ℕ) → Numbered S table count → Numbered (seen S (termOf t)) (r .table) (r .count)) ⌝ }
+        × ((S : List ℕ) → NumberTable S table count → NumberTable (seen S (termOf t)) (r .table) (r .count)) ⌝ }
 {
     if 64 <= t {
         return Numbers {
@@ -136,8 +139,8 @@ fn number_atom(table: [u8; 64], count: u8, from: &[u8], at: usize) -> Numbers
     requires { ⌜ AtomIn desk (now from) at × (count + 4 ≤ 64) ⌝ }
     ensures { λ r. ⌜ (r .count ≤ count + 4)
         × ((S : List ℕ)
-        → Numbered S table count
-        → Numbered (allSeen S (atomAt desk (now (from .entry)) at .args)) (r .table) (r .count)) ⌝ }
+        → NumberTable S table count
+        → NumberTable (allSeen S (atomAt desk (now (from .entry)) at .args)) (r .table) (r .count)) ⌝ }
 {
     let mut known = table;
     let mut given = count;
@@ -163,7 +166,7 @@ fn number_atom(table: [u8; 64], count: u8, from: &[u8], at: usize) -> Numbers
 
 // The new number of each variable of the record, by first appearance, and 255 for any other.
 fn numbers_of(member: &[u8]) -> [u8; 64]
-    requires { ⌜ Sound desk (now member) ⌝ }
+    requires { ⌜ SoundRecord desk (now member) ⌝ }
     ensures { λ r. ⌜ ((n : ℕ)
         → n < 64
         → getD r n 0 ≡ newNumber (firsts (terms (questionOf desk (now (member .entry))))) n) ⌝ }
@@ -210,7 +213,7 @@ fn atom_on(table: [u8; 64], from: &[u8], at: usize) -> [u8; 5]
 
 // The record with that atom, its variables so replaced, after its own.
 pub fn put_on(kept: [u8; 56], table: [u8; 64], from: &[u8], at: usize) -> [u8; 56]
-    requires { ⌜ Room desk 56 kept
+    requires { ⌜ RoomLeft desk 56 kept
         × AtomIn desk (now from) at
         × AtomFits desk (on-atom (subOf table) (atomAt desk (now from) at)) ⌝ }
     ensures { λ r. ⌜ r
@@ -225,7 +228,7 @@ pub fn put_on(kept: [u8; 56], table: [u8; 64], from: &[u8], at: usize) -> [u8; 5
 
 // The record with its variables numbered by first appearance.
 fn renumbered(member: &[u8]) -> [u8; 56]
-    requires { ⌜ Sound desk (now member) ⌝ }
+    requires { ⌜ SoundRecord desk (now member) ⌝ }
     ensures { λ r. ⌜ r ≡ heldIn desk 56 (renumber (questionOf desk (now (member .entry)))) ⌝ }
 {
     let table = numbers_of(member);
@@ -243,7 +246,7 @@ fn renumbered(member: &[u8]) -> [u8; 56]
 
 // The form of the record: equal atoms dropped but for the first, then variables numbered.
 pub fn in_form(member: [u8; 56]) -> [u8; 56]
-    requires { ⌜ Sound desk member ⌝ }
+    requires { ⌜ SoundRecord desk member ⌝ }
     ensures { λ r. ⌜ r ≡ heldIn desk 56 (form (questionOf desk member)) ⌝ }
 {
     let kept = drop_equal(&member);

@@ -6,12 +6,13 @@ ghost use lib.Dec.{T};
 ghost use lib.ListN.{length};
 ghost use Rattle.covering.specs.Search.{placeTerm, placeTerms, placeAtom};
 ghost use Rattle.covering.specs.Record.{desk, termOf, argsAt, atomAt, usedFirst, isAtom};
-ghost use Rattle.cover.specs.Held.{partOf, said};
+ghost use Rattle.cover.specs.HeldMap.{partOf};
+ghost use Rattle.cover.specs.HeldMap.{placedMap};
 
 // Sends the term t to the term u: a constant to itself, a variable where it went before or, the first time, to u.
 fn place_term(map: [u8; 64], t: u8, u: u8) -> Placed
     requires { ⌜ (64 ≤ t → 128 ≤ t) × (u ≡ 255 → ⊥) ⌝ }
-    ensures { λ r. ⌜ said r ≡ placeTerm (partOf map) (termOf t) (termOf u) ⌝ }
+    ensures { λ r. ⌜ placedMap r ≡ placeTerm (partOf map) (termOf t) (termOf u) ⌝ }
 {
     if t < 64 {
         let at = t as usize;
@@ -38,7 +39,7 @@ fn place_term(map: [u8; 64], t: u8, u: u8) -> Placed
 // Sends the used places of first from i on to those of second from k on: as many, each to its own.
 fn place_terms(first: &[u8], second: &[u8], i: usize, k: usize, map: [u8; 64]) -> Placed
     requires { ⌜ (i + 4 ≤ length (now first)) × (k + 4 ≤ length (now second)) × T (usedFirst desk (now first) i 4) ⌝ }
-    ensures { λ r. ⌜ said r
+    ensures { λ r. ⌜ placedMap r
         ≡ placeTerms (partOf map) (argsAt (now (first .entry)) i 4) (argsAt (now (second .entry)) k 4) ⌝ }
 {
     let mut so_far = map;
@@ -75,7 +76,7 @@ fn place_terms(first: &[u8], second: &[u8], i: usize, k: usize, map: [u8; 64]) -
 // Sends the atom of first at i to the atom of second at k.
 pub fn place_atom(first: &[u8], second: &[u8], i: usize, k: usize, map: [u8; 64]) -> Placed
     requires { ⌜ (i + 5 ≤ length (now first)) × (k + 5 ≤ length (now second)) × T (isAtom desk (now first) i) ⌝ }
-    ensures { λ r. ⌜ said r
+    ensures { λ r. ⌜ placedMap r
         ≡ placeAtom (partOf map) (atomAt desk (now (first .entry)) i) (atomAt desk (now (second .entry)) k) ⌝ }
 {
     if first[i] != second[k] {

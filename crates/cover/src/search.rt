@@ -9,8 +9,10 @@ ghost use lib.ListN.{length, getD};
 ghost use Rattle.covering.specs.Lists.{all};
 ghost use Rattle.covering.specs.Search.{findMap, covers};
 ghost use Rattle.cover.specs.Candidates.{tried, coversOn, hasCandidate};
-ghost use Rattle.covering.specs.Record.{desk, isAtom, atomAt, atomsAt, questionOf, Sound};
-ghost use Rattle.cover.specs.Held.{partOf, said};
+ghost use Rattle.covering.specs.Record.{desk, isAtom, atomAt, atomsAt, questionOf};
+ghost use Rattle.covering.specs.Record.{SoundRecord};
+ghost use Rattle.cover.specs.HeldMap.{partOf};
+ghost use Rattle.cover.specs.HeldMap.{placedMap};
 ghost use Rattle.cover.specs.Buffer.{AtomsIn};
 
 // Whether the atom of first at i can be placed on one of the w atoms of second, as the map is now.
@@ -57,7 +59,7 @@ fn all_have(first: &[u8], second: &[u8], i: usize, left: usize, w: usize, map: [
 // which some atom has no candidate any more ends at once; that changes no answer.
 fn place_next(first: &[u8], second: &[u8], i: usize, left: usize, w: usize, map: [u8; 64]) -> Placed
     requires { ⌜ AtomsIn desk (now first) i left × (left ≤ 11) × (w ≤ 11) × (1 + w * 5 ≤ length (now second)) ⌝ }
-    ensures { λ r. ⌜ said r
+    ensures { λ r. ⌜ placedMap r
         ≡ findMap
         (atomsAt desk (now (first .entry)) i left)
         (atomsAt desk (now (second .entry)) 1 w)
@@ -93,7 +95,7 @@ fn try_candidate(
         × (w ≤ 11)
         × (k + more * 5 ≤ length (now second))
         × (1 + w * 5 ≤ length (now second)) ⌝ }
-    ensures { λ r. ⌜ said r
+    ensures { λ r. ⌜ placedMap r
         ≡ tried
         (atomAt desk (now (first .entry)) i)
         (atomsAt desk (now (first .entry)) (i + 5) left)
@@ -122,7 +124,7 @@ fn try_candidate(
 
 // Whether the first record covers the second, where both are known to be sound.
 pub fn covers_sound(first: &[u8], second: &[u8]) -> bool
-    requires { ⌜ Sound desk (now first) × Sound desk (now second) ⌝ }
+    requires { ⌜ SoundRecord desk (now first) × SoundRecord desk (now second) ⌝ }
     ensures { λ r. ⌜ r ≡ covers (questionOf desk (now (first .entry))) (questionOf desk (now (second .entry))) ⌝ }
 {
     let n = first[0] as usize;
@@ -133,7 +135,7 @@ pub fn covers_sound(first: &[u8], second: &[u8]) -> bool
 
 // The same with first's first atom on atom k of second: what a loop over candidates asks.
 pub fn covers_on(first: &[u8], second: &[u8], k: usize) -> bool
-    requires { ⌜ Sound desk (now first) × Sound desk (now second) × (k < getD (now second) 0 0) ⌝ }
+    requires { ⌜ SoundRecord desk (now first) × SoundRecord desk (now second) × (k < getD (now second) 0 0) ⌝ }
     ensures { λ r. ⌜ r
         ≡ coversOn
         (questionOf desk (now (first .entry)))

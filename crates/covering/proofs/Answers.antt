@@ -9,7 +9,8 @@ use native.Mathlib.Omega.{arith}
 use Rattle.covering.specs.Term.{Question}
 use Rattle.covering.specs.Search.{covers}
 use Rattle.covering.specs.Record.{Layout, questionOf, isRecord, recordOf}
-use Rattle.covering.specs.Desk.{answer, coversAnswer, the-first, the-second, neither, which}
+use Rattle.covering.specs.Desk.{coversAnswer, the-first, the-second, neither, which}
+use Rattle.covering.specs.Desk.{coversNumber}
 use Rattle.covering.proofs.Tests.{either}
 
 module _ (L : Layout) (B : List ℕ) where
@@ -36,7 +37,7 @@ module _ (L : Layout) (A B : List ℕ) where
   answer-covers e f = rw (record-of L A e, record-of L B f)
 
 -- which to keep, from the two answers
-first-kept : (x y : Option Question) → answer x y ≡ 1 → which x y ≡ the-first
+first-kept : (x y : Option Question) → coversNumber x y ≡ 1 → which x y ≡ the-first
 first-kept none y e = absurd (omega arith)
 first-kept (some A) none e = absurd (omega arith)
 first-kept (some A) (some B) e = go (either (covers A B))
@@ -45,7 +46,7 @@ first-kept (some A) (some B) e = go (either (covers A B))
     go (inl t) = rw t
     go (inr f) = let z : _≡_ {A = ℕ} 0 1 = rw f at e in absurd (omega arith)
 
-second-kept : (x y : Option Question) → (answer x y ≡ 1 → ⊥) → answer y x ≡ 1 → which x y ≡ the-second
+second-kept : (x y : Option Question) → (coversNumber x y ≡ 1 → ⊥) → coversNumber y x ≡ 1 → which x y ≡ the-second
 second-kept none none n e = absurd (omega arith)
 second-kept none (some B) n e = absurd (omega arith)
 second-kept (some A) none n e = absurd (omega arith)
@@ -57,7 +58,7 @@ second-kept (some A) (some B) n e = go (either (covers A B)) (either (covers B A
     go (inr f) (inl u) = rw (f, u)
     go (inr f) (inr u) = let z : _≡_ {A = ℕ} 0 1 = rw u at e in absurd (omega arith)
 
-none-kept : (x y : Option Question) → (answer x y ≡ 1 → ⊥) → (answer y x ≡ 1 → ⊥) → which x y ≡ neither
+none-kept : (x y : Option Question) → (coversNumber x y ≡ 1 → ⊥) → (coversNumber y x ≡ 1 → ⊥) → which x y ≡ neither
 none-kept none y n m = refl
 none-kept (some A) none n m = refl
 none-kept (some A) (some B) n m = go (either (covers A B)) (either (covers B A))

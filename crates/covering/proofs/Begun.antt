@@ -10,12 +10,14 @@ use lib.Seq.{drop-cons}
 use Rattle.covering.specs.Lists.{gather}
 use Rattle.covering.specs.Term.{Question}
 use Rattle.covering.specs.Record.{Layout, size, areAtoms, questionOf, atomBytes, recordBytes}
-use Rattle.covering.specs.Record.{Fits, Sound}
+use Rattle.covering.specs.Record.{Fits}
+use Rattle.covering.specs.Record.{SoundRecord}
 use Rattle.covering.proofs.Lengths.{question-count, record-is, record-long}
-use Rattle.covering.proofs.RoundTrip.{Apart, atoms-read, atoms-back}
+use Rattle.covering.proofs.RoundTrip.{atoms-read, atoms-back}
+use Rattle.covering.proofs.RoundTrip.{TellsApart}
 
 -- written
-module _ (L : Layout) (ap-L : Apart L) (A : Question) (R : List ℕ) (fits : Fits L A) where
+module _ (L : Layout) (ap-L : TellsApart L) (A : Question) (R : List ℕ) (fits : Fits L A) where
   abbrev B : List ℕ
   B = recordBytes L A ++ R
 
@@ -28,7 +30,7 @@ module _ (L : Layout) (ap-L : Apart L) (A : Question) (R : List ℕ) (fits : Fit
   atoms-there : T (areAtoms L B 1 (length A))
   atoms-there = atoms-read L ap-L B 1 A R (fits .each) (ap (drop 1) begins-with) .1
 
-  pub begun-sound : Sound L (recordBytes L A ++ R)
+  pub begun-sound : SoundRecord L (recordBytes L A ++ R)
   begun-sound =
       record {
         some-atom = omega (arith, first-byte, fits .some-atom);
@@ -44,7 +46,7 @@ module _ (L : Layout) (B : List ℕ) where
   pub begun-long : length (recordBytes L (questionOf L B)) ≡ 1 + getD B 0 0 * size L
   begun-long = record-long L (questionOf L B) ∙ ap (λ (n : ℕ). 1 + n * size L) (question-count L B)
 
-  module _ (ap-L : Apart L) (s : Sound L B) where
+  module _ (ap-L : TellsApart L) (s : SoundRecord L B) where
     pub begun-record : take (1 + getD B 0 0 * size L) B ≡ recordBytes L (questionOf L B)
     unfolding questionOf
     begun-record =

@@ -10,7 +10,8 @@ use lib.Dec.{T, eqb, ltb, leb, ltb→lt, leb→le, eqb→eq}
 use lib.ListN.{length, getD, List·getD-eq-default}
 use Rattle.covering.specs.Term.{var, con, eqTerm}
 use Rattle.covering.specs.Record.{Layout, size, termOf, argsAt, isTerm, unused, usedFirst, isAtom, areAtoms}
-use Rattle.covering.specs.Record.{isRecord, Sound}
+use Rattle.covering.specs.Record.{isRecord}
+use Rattle.covering.specs.Record.{SoundRecord}
 use Rattle.covering.proofs.Tests.{either, fst-of, snd-of, or-cases, true→T}
 
 pub suc-sub-one : (n : ℕ) → suc n - 1 ≡ n
@@ -176,7 +177,7 @@ record-length L B t =
     let rest = snd-of (leb 1 n && leb n (L .atoms)) _ t in
     eqb→eq (length B) (1 + n * size L) (fst-of (eqb (length B) (1 + n * size L)) _ rest)
 
-pub record-sound : (L : Layout) (B : List ℕ) → T (isRecord L B) → Sound L B
+pub record-sound : (L : Layout) (B : List ℕ) → T (isRecord L B) → SoundRecord L B
 unfolding isRecord
 record-sound L B t =
     let n = getD B 0 0 in

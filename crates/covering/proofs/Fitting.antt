@@ -15,16 +15,17 @@ use Rattle.covering.specs.Lists.{_∈_}
 use Rattle.covering.specs.Term.{Term, var, con, Atom, Question, on-term, on-atom, terms, eqAtom}
 use Rattle.covering.specs.Form.{dedup, firsts, index, numbering, renumber, form}
 use Rattle.covering.specs.Record.{Layout, size, termOf, argsAt, atomAt, atomsAt, questionOf, isTerm, unused}
-use Rattle.covering.specs.Record.{usedFirst, isAtom, areAtoms, Sound, TermFits, AtomFits, Fits}
+use Rattle.covering.specs.Record.{usedFirst, isAtom, areAtoms, TermFits, AtomFits, Fits}
+use Rattle.covering.specs.Record.{SoundRecord}
 use Rattle.covering.proofs.Tests.{decide, clash, cond-yes, cond-no, fst-of, snd-of, or-cases, true→T, false→no}
 use Rattle.covering.proofs.Terms.{terms-in}
 use Rattle.covering.proofs.Form.{dedup-out, firsts-in}
 use Rattle.covering.proofs.Bytes.{term-var, term-con, atom-used}
 use Rattle.covering.proofs.Lengths.{question-count}
-use Rattle.covering.proofs.RoundTrip.{Apart}
+use Rattle.covering.proofs.RoundTrip.{TellsApart}
 use Rattle.covering.proofs.Lists.{keep-few}
 
-module _ (L : Layout) (ap-L : Apart L) where
+module _ (L : Layout) (ap-L : TellsApart L) where
   term-fits : (b : ℕ) → T (isTerm L b) → TermFits L (termOf b)
   unfolding isTerm
   term-fits b t = go (or-cases (ltb b (L .variables)) (leb 128 b && ltb b (128 + L .constants)) t)
@@ -105,7 +106,7 @@ module _ (L : Layout) (ap-L : Apart L) where
           go (inr k) below = below (snd-of (isAtom L B i) _ t) k
 
       -- the question of a sound record can be written
-      pub sound-fits : Sound L B → Fits L (questionOf L B)
+      pub sound-fits : SoundRecord L B → Fits L (questionOf L B)
       unfolding questionOf
       sound-fits s =
           let e = question-count L B in

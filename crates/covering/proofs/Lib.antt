@@ -11,7 +11,7 @@ pub mod Decides
 pub mod First
 -- the form of a question
 pub mod Form
-pub mod Same
+pub mod SameForm
 -- a record's bytes: place by place, atom by atom, copied, as long as they are, there and back
 pub mod Bytes
 pub mod Places

@@ -18,7 +18,8 @@ use Rattle.covering.specs.Lists.{_∈_, gather}
 use Rattle.covering.specs.Term.{Term, var, con, Atom, Question}
 use Rattle.covering.specs.Record.{Layout, desk, size, termOf, argsAt, atomAt, atomsAt, questionOf, isTerm}
 use Rattle.covering.specs.Record.{unused, usedFirst, isAtom, areAtoms, isRecord, recordOf}
-use Rattle.covering.specs.Record.{Sound, byteOf, placesBytes, atomBytes, recordBytes, TermFits, AtomFits, Fits}
+use Rattle.covering.specs.Record.{byteOf, placesBytes, atomBytes, recordBytes, TermFits, AtomFits, Fits}
+use Rattle.covering.specs.Record.{SoundRecord}
 use Rattle.covering.proofs.Tests.{either, both, fst-of, snd-of, or-left, or-right, true→T, T→true, none≢some}
 use Rattle.covering.proofs.Terms.{atom-path}
 use Rattle.covering.proofs.Bytes.{term-var, term-con, atom-used, record-fits, record-sound, record-length}
@@ -26,11 +27,11 @@ use Rattle.covering.proofs.Lengths.{count-atoms, record-long}
 use Rattle.covering.proofs.Answers.{record-of, no-record}
 
 -- bytes tell variables from constants, and 255 is neither
-pub record Apart (L : Layout) : Type 0 where
+pub record TellsApart (L : Layout) : Type 0 where
   pub variables : L .variables ≤ 128
   pub constants : L .constants ≤ 127
 
-pub desk-apart : Apart desk
+pub desk-apart : TellsApart desk
 desk-apart = record { variables = omega arith; constants = omega arith }
 
 byte-back : (b : ℕ) → byteOf (termOf b) ≡ b
@@ -40,7 +41,7 @@ byte-back b = go (either (ltb b 128))
     go (inl e) = ap byteOf (term-var b (ltb-true b 128 e))
     go (inr e) = let h = ltb-false b 128 e in ap byteOf (term-con b h) ∙ omega arith
 
-module _ (L : Layout) (ap-L : Apart L) where
+module _ (L : Layout) (ap-L : TellsApart L) where
   -- a term's byte is not 255
   term-used : (b : ℕ) → T (isTerm L b) → b ≡ 255 → ⊥
   unfolding isTerm
@@ -91,7 +92,7 @@ next-place i w = omega arith
 
 -- From a question to bytes and back.
 
-module _ (L : Layout) (ap-L : Apart L) (B : List ℕ) where
+module _ (L : Layout) (ap-L : TellsApart L) (B : List ℕ) where
   unused-read : (w i : ℕ) (R : List ℕ) → drop i B ≡ placesBytes w [] ++ R → T (unused B i w) × (drop (i + w) B ≡ R)
   unfolding unused
   unused-read zero i R e = (tt, rw add-zero e)
@@ -165,7 +166,7 @@ module _ (L : Layout) (ap-L : Apart L) (B : List ℕ) where
       let r = atoms-read (i + size L) A R (λ b m. fits b (List·Memᴰ·tail m)) (f .2) in
       (ap₂ _∷_ (f .0) (r .0), both (isAtom L B i) _ (f .1) (r .1))
 
-pub record-round : (L : Layout) → Apart L → (A : Question) → Fits L A → recordOf L (recordBytes L A) ≡ some A
+pub record-round : (L : Layout) → TellsApart L → (A : Question) → Fits L A → recordOf L (recordBytes L A) ≡ some A
 unfolding recordBytes questionOf
 record-round L ap-L A fits = record-of L B good ∙ ap some (r .0)
   where
@@ -186,7 +187,7 @@ no-atoms s = omega arith
 one-more : (n s : ℕ) → s + n * s ≡ suc n * s
 one-more n s = omega arith
 
-module _ (L : Layout) (ap-L : Apart L) (B : List ℕ) where
+module _ (L : Layout) (ap-L : TellsApart L) (B : List ℕ) where
   -- a place more
   front : (i : ℕ) → i < length B → drop i B ≡ getD B i 0 ∷ drop (i + 1) B
   front i h = drop-cons B i 0 h ∙ ap (λ n. getD B i 0 ∷ drop n B) (sym (add-one i))
@@ -235,14 +236,14 @@ module _ (L : Layout) (ap-L : Apart L) (B : List ℕ) where
       ∙ sym (take-add (size L) (n * size L) (drop i B))
       ∙ ap (λ m. take m (drop i B)) (one-more n (size L))
 
-pub bytes-round : (L : Layout) → Apart L → (B : List ℕ) (A : Question) → recordOf L B ≡ some A → recordBytes L A ≡ B
+pub bytes-round : (L : Layout) → TellsApart L → (B : List ℕ) (A : Question) → recordOf L B ≡ some A → recordBytes L A ≡ B
 unfolding recordBytes questionOf
 bytes-round L ap-L B A e = go (either (isRecord L B))
   where
     n : ℕ
     n = getD B 0 0
 
-    whole : Sound L B → length B ≡ 1 + n * size L → recordBytes L (questionOf L B) ≡ B
+    whole : SoundRecord L B → length B ≡ 1 + n * size L → recordBytes L (questionOf L B) ≡ B
     whole s len =
         ap₂
         _∷_

@@ -12,7 +12,7 @@ use Rattle.covering.specs.Term.{Term, var, con, Atom, Question}
 use Rattle.covering.specs.Record.{Layout, size, atomAt, atomsAt, isTerm, unused, usedFirst, isAtom, areAtoms}
 use Rattle.covering.specs.Record.{placesBytes, atomBytes, recordBytes, TermFits, AtomFits, Fits}
 use Rattle.covering.proofs.Tests.{both, fst-of, snd-of, or-cases, or-left, or-right}
-use Rattle.covering.proofs.RoundTrip.{Apart}
+use Rattle.covering.proofs.RoundTrip.{TellsApart}
 use Rattle.covering.proofs.Fitting.{term-is-used}
 
 pub record Wider (L M : Layout) : Type 0 where
@@ -85,7 +85,7 @@ module _ (L M : Layout) (w : Wider L M) where
           (both (leb 128 b) _ (fst-of (leb 128 b) (ltb b (128 + L .constants)) h)
           (lt→ltb b (128 + M .constants) (omega (arith, w .constants))))
 
-  module _ (ap-M : Apart M) (B : List ℕ) where
+  module _ (ap-M : TellsApart M) (B : List ℕ) where
     used-wider : (p i : ℕ) → T (usedFirst L B i p) → T (usedFirst M B i p)
     unfolding usedFirst unused
     used-wider zero i t = tt

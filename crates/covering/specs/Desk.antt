@@ -10,36 +10,36 @@ use Rattle.covering.specs.Search.{covers}
 use Rattle.covering.specs.Record.{Layout, recordOf}
 
 -- "0 no, 1 yes, 2 first malformed, 3 second malformed; 2 wins"
-abbrev pub answer : Option Question → Option Question → ℕ
-answer none b = 2
-answer (some A) none = 3
-answer (some A) (some B) = cond (covers A B) 1 0
+abbrev pub coversNumber : Option Question → Option Question → ℕ
+coversNumber none b = 2
+coversNumber (some A) none = 3
+coversNumber (some A) (some B) = cond (covers A B) 1 0
 
 -- "It takes two member records and answers if the first covers the second"
 unfoldable pub coversAnswer : Layout → List ℕ → List ℕ → ℕ
-coversAnswer L first second = answer (recordOf L first) (recordOf L second)
+coversAnswer L first second = coversNumber (recordOf L first) (recordOf L second)
 
 -- "The desk also asks which of two records to keep"
-pub data Kept : Type 0 where
-  the-first : Kept
-  the-second : Kept
-  neither : Kept
+pub data Chosen : Type 0 where
+  the-first : Chosen
+  the-second : Chosen
+  neither : Chosen
 
 -- "the covering one is handed back ..  Equivalent records give the first. Malformed or incomparable ones give the
 -- empty part"
-abbrev pub which : Option Question → Option Question → Kept
+abbrev pub which : Option Question → Option Question → Chosen
 which none b = neither
 which (some A) none = neither
 which (some A) (some B) = cond (covers A B) the-first (cond (covers B A) the-second neither)
 
-abbrev pub keptBytes : Kept → List ℕ → List ℕ → List ℕ
+abbrev pub keptBytes : Chosen → List ℕ → List ℕ → List ℕ
 keptBytes the-first a b = a
 keptBytes the-second a b = b
 keptBytes neither a b = []
 
 -- "as a part of its own buffer"; "the empty part at the first's start". A place is a block of memory and an offset in
 -- it.
-abbrev pub keptPlace : Kept → ℕ × ℕ → ℕ × ℕ → ℕ × ℕ
+abbrev pub keptPlace : Chosen → ℕ × ℕ → ℕ × ℕ → ℕ × ℕ
 keptPlace the-first p q = p
 keptPlace the-second p q = q
 keptPlace neither p q = p

@@ -80,7 +80,7 @@ unfoldable pub recordOf : Layout → List ℕ → Option Question
 recordOf L B = cond (isRecord L B) (some (questionOf L B)) none
 
 -- what is known of a sound record that a buffer begins with: it may go on after the record
-pub record Sound (L : Layout) (B : List ℕ) : Type 0 where
+pub record SoundRecord (L : Layout) (B : List ℕ) : Type 0 where
   pub some-atom : 1 ≤ getD B 0 0
   pub most : getD B 0 0 ≤ L .atoms
   pub fits : 1 + getD B 0 0 * size L ≤ length B

@@ -57,3 +57,7 @@ eqTerms (t ∷ ts) (u ∷ us) = eqTerm t u && eqTerms ts us
 
 abbrev pub eqAtom : Atom → Atom → Bool
 eqAtom a b = eqb (a .rel) (b .rel) && eqTerms (a .args) (b .args)
+
+abbrev pub isVar : Term → Bool
+isVar (var n) = true
+isVar (con c) = false

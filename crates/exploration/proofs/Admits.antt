@@ -11,14 +11,15 @@ use lib.ListN.{length}
 use Rattle.covering.specs.Term.{Question}
 use Rattle.covering.proofs.Tests.{decide, clash, cond-yes, cond-no}
 use Rattle.exploration.specs.Run.{Test, Limits, State, too-long, no-room, Admission, dropped, admitted, stopped}
-use Rattle.exploration.specs.Run.{passed, failed, onAdmission, covered, without, appended, admit, through}
+use Rattle.exploration.specs.Run.{passed, failed, onAdmission, covered, appended, admit, through}
+use Rattle.exploration.specs.Run.{remaining}
 use Rattle.exploration.specs.Steps.{New, Admitted}
 
 module _ (cov : Test) (lim : Limits) where
   pub data Admits (s : State) (P : Question) : Admission → Type 0 where
     was-covered : T (covered cov P (s .members)) → Admits s P dropped
     was-long : T (not (covered cov P (s .members))) → lim .cap < length P → Admits s P (stopped too-long)
-    was-full : New cov lim s P → lim .room ≤ length (without cov P (s .members)) → Admits s P (stopped no-room)
+    was-full : New cov lim s P → lim .room ≤ length (remaining cov P (s .members)) → Admits s P (stopped no-room)
     was-admitted : Admitted cov lim s P → Admits s P (admitted (appended cov s P))
 
   pub admits : (s : State) (P : Question) → Admits s P (admit cov lim s P)
@@ -29,7 +30,7 @@ module _ (cov : Test) (lim : Limits) where
       Held a = Admits s P a
 
       rest : List Question
-      rest = without cov P (s .members)
+      rest = remaining cov P (s .members)
 
       last : Admission
       last = admitted (appended cov s P)

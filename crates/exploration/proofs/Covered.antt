@@ -16,11 +16,13 @@ use Rattle.covering.specs.Term.{Question}
 use Rattle.covering.specs.Form.{form}
 use Rattle.covering.proofs.Lists.{any-in, any-out, keep-out}
 use Rattle.covering.proofs.Tests.{decide, clash}
-use Rattle.exploration.specs.Run.{Test, Limits, State, oldest, takenUp, covered, without}
+use Rattle.exploration.specs.Run.{Test, Limits, State, oldest, takenUp, covered}
+use Rattle.exploration.specs.Run.{remaining}
 use Rattle.exploration.specs.Run.{appended}
 use Rattle.exploration.specs.Steps.{Position, between, within, Admitted, Reaches}
 use Rattle.exploration.specs.Chain.{Apart}
-use Rattle.exploration.proofs.Kept.{stateOf, admissions-keep, KeptByExploration, explorations-keep}
+use Rattle.exploration.proofs.Invariant.{admissions-keep, KeptByExploration, explorations-keep}
+use Rattle.exploration.proofs.Invariant.{stateAt}
 use Rattle.exploration.proofs.States.{explored, oldest-in, taken-cases, stays, new-in}
 use Rattle.exploration.proofs.States.{explored-out, each-member}
 
@@ -54,17 +56,17 @@ module _ (cov : Test) (Cov : Question → Question → Type 0) (decides : (A B :
       at N (inr x) =
           let f = h M (List·Memᴰ·head refl) in subst (Free M) (sym (List·Memᴰ·eq-of-singleton x)) (f .1, f .0)
 
-  uncovered : (U : List Question) (P : Question) → T (not (covered cov P U)) → (N : Question) → N ∈ U → ¬ Cov N P
-  uncovered U P t N m c = clash (covered cov P U) (any-in (λ M. cov M P) U m (decides N P .1 c)) t
+  none-covers : (U : List Question) (P : Question) → T (not (covered cov P U)) → (N : Question) → N ∈ U → ¬ Cov N P
+  none-covers U P t N m c = clash (covered cov P U) (any-in (λ M. cov M P) U m (decides N P .1 c)) t
 
   apart-appended : (s : State) (P : Question) → T (not (covered cov P (s .members))) → Apart Cov (s .members)
       → Apart Cov (appended cov s P .members)
   apart-appended s P t a =
-      apart-last (without cov P (s .members)) P (apart-keep (λ N. not (cov P N)) (s .members) a)
+      apart-last (remaining cov P (s .members)) P (apart-keep (λ N. not (cov P N)) (s .members) a)
       (λ N x. free N (keep-out (λ M. not (cov P M)) (s .members) x))
     where
       free : (N : Question) → (N ∈ s .members) × T (not (cov P N)) → Free P N
-      free N h = ((λ c. clash (cov P N) (decides P N .1 c) (h .1)), uncovered (s .members) P t N (h .0))
+      free N h = ((λ c. clash (cov P N) (decides P N .1 c) (h .1)), none-covers (s .members) P t N (h .0))
 
   module _ (itself : (A : Question) → Cov A A) (chain : (A B C : Question) → Cov A B → Cov B C → Cov A C) where
     -- a member that goes is covered by the one that comes
@@ -80,7 +82,7 @@ module _ (cov : Test) (Cov : Question → Question → Type 0) (decides : (A B :
     new-covered s P = (P, new-in cov s P, itself P)
 
     module _ (lim : Limits) (steps : Question → List Question) (allowed : ℕ) (Q : Question) where
-      pub members-apart : {p : Position} → Reaches cov lim steps allowed Q p → Apart Cov (stateOf p .members)
+      pub members-apart : {p : Position} → Reaches cov lim steps allowed Q p → Apart Cov (stateAt p .members)
       members-apart =
           admissions-keep cov lim steps allowed Q {I = λ s. Apart Cov (s .members)}
           (record {
@@ -89,28 +91,28 @@ module _ (cov : Test) (Cov : Question → Question → Type 0) (decides : (A B :
             admits = λ s P m a. apart-appended s P (m .new .uncovered) a;
           })
 
-      pub members-some : {p : Position} → Reaches cov lim steps allowed Q p → 1 ≤ length (stateOf p .members)
+      pub members-some : {p : Position} → Reaches cov lim steps allowed Q p → 1 ≤ length (stateAt p .members)
       members-some =
           admissions-keep cov lim steps allowed Q {I = λ s. 1 ≤ length (s .members)}
           (record {
             first = omega arith;
             takes = λ s M e a. a;
-            admits = λ s P m a. omega (arith, length-append (without cov P (s .members)) (P ∷ []));
+            admits = λ s P m a. omega (arith, length-append (remaining cov P (s .members)) (P ∷ []));
           })
 
-      pub members-most : 1 ≤ lim .room → {p : Position} → Reaches cov lim steps allowed Q p
-          → length (stateOf p .members) ≤ lim .room
-      members-most one =
+      pub members-room : 1 ≤ lim .room → {p : Position} → Reaches cov lim steps allowed Q p
+          → length (stateAt p .members) ≤ lim .room
+      members-room one =
           admissions-keep cov lim steps allowed Q {I = λ s. length (s .members) ≤ lim .room}
           (record {
             first = one;
             takes = λ s M e a. a;
             admits =
-                λ s P m a. let h = m .fits in omega (arith, length-append (without cov P (s .members)) (P ∷ []));
+                λ s P m a. let h = m .fits in omega (arith, length-append (remaining cov P (s .members)) (P ∷ []));
           })
 
       pub question-covered : Cov (form Q) Q → {p : Position} → Reaches cov lim steps allowed Q p
-          → CoveredBy Cov (stateOf p .members) Q
+          → CoveredBy Cov (stateAt p .members) Q
       question-covered c =
           admissions-keep cov lim steps allowed Q {I = λ s. CoveredBy Cov (s .members) Q}
           (record {

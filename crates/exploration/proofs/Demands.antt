@@ -14,7 +14,7 @@ use Rattle.covering.specs.Search.{covers}
 use Rattle.covering.specs.Form.{form}
 use Rattle.covering.specs.Rule.{Rule}
 use Rattle.reading.specs.Book.{bookOf}
-use Rattle.reading.specs.Verdict.{Sound}
+use Rattle.reading.specs.Verdict.{SoundBook}
 use Rattle.unification.specs.Step.{listed, rewritings}
 use Rattle.unification.specs.Published.{Publishes}
 use Rattle.unification.proofs.Listed.{rewritings-listed}
@@ -26,7 +26,8 @@ use Rattle.exploration.specs.Answer.{outcomeOf, Answers}
 use Rattle.exploration.specs.Refusals.{Refuses, Completes}
 use Rattle.exploration.specs.Chain.{Ledger, SomeHolds, Derives, Reached, Apart}
 use Rattle.exploration.proofs.OfBook.{member-below, taken-member, whole, members-most as most-members, run-answers}
-use Rattle.exploration.proofs.Given.{Whole, all, kind, members-are, refused-exactly, complete-exactly}
+use Rattle.exploration.proofs.Given.{Whole, kind, members-are, refused-exactly, complete-exactly}
+use Rattle.exploration.proofs.Given.{whole-given}
 use Rattle.exploration.proofs.Returns.{returns-union}
 use Rattle.exploration.proofs.Given.{refusal-unchanged, rest-untouched, same-length, the-run, the-bytes}
 
@@ -47,14 +48,14 @@ pub record Demand2 (book out : List ℕ) (number place : ℕ) (after : List ℕ)
   -- the members and the count that the bytes say are those with which the run completes
   pub the-run : number ≡ 0 → outcomeOf book ≡ complete (membersOf after) (exploredOf after)
   -- and whenever the run of a sound book completes, with room for its union, they are given
-  pub every-run : Sound book → outputSize ≤ length out → {U : List Question} {n : ℕ} → outcomeOf book ≡ complete U n
+  pub every-run : SoundBook book → outputSize ≤ length out → {U : List Question} {n : ℕ} → outcomeOf book ≡ complete U n
       → (number ≡ 0) × (membersOf after ≡ U) × (exploredOf after ≡ n)
   -- every byte of the union is theirs
   pub the-bytes : number ≡ 0 → take place after ≡ unionBytes (membersOf after) (exploredOf after)
   -- a question that is taken up is rewritten by the rules in book order, by each to its listed rewritings in order ..
   pub the-steps : (r : Rule) (M : Question) → rewritings apart r M ≡ map (λ e. e .1) (listed apart r M)
   -- .. which are exactly the published ones that merge no more than their pairing needs
-  pub exact-steps : Sound book → {M : Question} {Ps : List Question} {s : State} {k : ℕ}
+  pub exact-steps : SoundBook book → {M : Question} {Ps : List Question} {s : State} {k : ℕ}
       → Reaches covers limits (allRewritings (bookOf book .rules)) (bookOf book .allowed) (bookOf book .question)
       (within M Ps s k)
       → (r : Rule) → r ∈ bookOf book .rules → (n : ℕ) (X : Question)
@@ -102,14 +103,14 @@ module _ {book out : List ℕ} {number place : ℕ} {after : List ℕ} (given : 
         exact-steps = steps;
       }
     where
-      every : Sound book → outputSize ≤ length out → {U : List Question} {n : ℕ} → outcomeOf book ≡ complete U n
+      every : SoundBook book → outputSize ≤ length out → {U : List Question} {n : ℕ} → outcomeOf book ≡ complete U n
           → (number ≡ 0) × (membersOf after ≡ U) × (exploredOf after ≡ n)
       every sound roomy {U} {n} e =
           let zero = demand-1 .determined (returns-union book out roomy sound e) .0 in
           let same = the-run given zero in
           (zero, (cc), (cc))
 
-      steps : Sound book → {M : Question} {Ps : List Question} {s : State} {k : ℕ}
+      steps : SoundBook book → {M : Question} {Ps : List Question} {s : State} {k : ℕ}
           → Reaches covers limits (allRewritings (bookOf book .rules)) (bookOf book .allowed) (bookOf book .question)
           (within M Ps s k)
           → (r : Rule) → r ∈ bookOf book .rules → (n : ℕ) (X : Question)
@@ -134,7 +135,7 @@ module _ {book out : List ℕ} {number place : ℕ} {after : List ℕ} (given : 
       }
     where
       w : Whole given
-      w = all given zero
+      w = whole-given given zero
 
       are : membersOf after ≡ w .members
       are = members-are given zero

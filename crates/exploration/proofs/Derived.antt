@@ -13,16 +13,18 @@ use Rattle.covering.proofs.Preorder.{covers-trans}
 use Rattle.covering.proofs.Form.{form-equivalent}
 use Rattle.covering.specs.Rule.{Rule}
 use Rattle.unification.specs.Step.{Below, rewritings}
-use Rattle.unification.proofs.Complete.{Held, step-complete}
-use Rattle.unification.proofs.Sound.{step-sound}
-use Rattle.exploration.specs.Chain.{Holds, SomeHolds, Chain, here, apply, Derives, Reached, first, next}
+use Rattle.unification.proofs.StepComplete.{step-complete}
+use Rattle.unification.proofs.StepComplete.{HeldBefore}
+use Rattle.unification.proofs.StepSound.{step-sound}
+use Rattle.exploration.specs.Chain.{Holds, SomeHolds, Chain, here, apply, Derives, Reached}
+use Rattle.exploration.specs.Chain.{from-question, by-step}
 
 module _ (k : ℕ) (rules : List Rule) (Q : Question) where
   -- what a rewriting that is reached says, rule application derives
   pub reached-derives : {M : Question} (F : Question) → Reached k rules Q M → Holds M F → Derives rules Q F
-  reached-derives F (first e) h =
+  reached-derives F (from-question e) h =
       (F, here refl, covers-trans (form-equivalent Q .0) (subst (λ (A : Question). Covers A F) e h))
-  reached-derives {M = P} F (next {M} r m low c x) h =
+  reached-derives {M = P} F (by-step {M} r m low c x) h =
       let one = step-sound k r M P F low x h in
       let rest = reached-derives (one .0) c (one .2) in
       (rest .0, apply r m (one .1) (rest .1), rest .2)
@@ -40,7 +42,7 @@ module _ (k : ℕ) (rules : List Rule) (Q : Question) where
     derived-holds (here e) a = subst (SomeHolds U) (sym e) a
     derived-holds (apply {F} {H} r m one c) a = back (derived-holds c a)
       where
-        at : (M : Question) → M ∈ U → Covers M F ⊎ Held k r M F → SomeHolds U F
+        at : (M : Question) → M ∈ U → Covers M F ⊎ HeldBefore k r M F → SomeHolds U F
         at M n (inl h) = (M, n, h)
         at M n (inr h) =
             let c = u .closed M n r m (h .question) (h .listed) in (c .0, c .1, covers-trans (c .2) (h .holds))

@@ -9,7 +9,7 @@ use lib.ListN.{length, take, drop, length-append, length-drop}
 use lib.Seq.{take-at, drop-at}
 use Rattle.covering.specs.Lists.{_∈_}
 use Rattle.covering.specs.Term.{Question}
-use Rattle.reading.specs.Verdict.{Sound}
+use Rattle.reading.specs.Verdict.{SoundBook}
 use Rattle.exploration.specs.Run.{complete}
 use Rattle.exploration.specs.Union.{outputSize, total, unionBytes, membersOf, exploredOf}
 use Rattle.exploration.specs.Answer.{Result, union, refusal, outcomeOf, result, answer, written, answerOf}
@@ -17,7 +17,7 @@ use Rattle.exploration.specs.Answer.{writtenOf}
 use Rattle.exploration.specs.Answer.{Answers}
 use Rattle.exploration.specs.Refusals.{Refuses, Completes}
 use Rattle.exploration.proofs.OfBook.{Member, whole, members-most, desk-fits}
-use Rattle.exploration.proofs.Written.{union-length, total-most, explored-read, union-round}
+use Rattle.exploration.proofs.UnionBytes.{union-length, total-most, explored-read, union-round}
 use Rattle.exploration.proofs.Refused.{refuses-exactly, completes-exactly, refuses-from, ran-union}
 
 module _ {book out : List ℕ} {number place : ℕ} {after : List ℕ} (given : Answers book out number place after) where
@@ -68,13 +68,13 @@ module _ {book out : List ℕ} {number place : ℕ} {after : List ℕ} (given : 
     pub members : List Question
     pub explored : ℕ
     pub roomy : outputSize ≤ length out
-    pub sound : Sound book
+    pub sound : SoundBook book
     pub ran : outcomeOf book ≡ complete members explored
     pub is : result book (length out) ≡ union members explored
 
   module _ (zero : number ≡ 0) where
-    pub all : Whole
-    all = go of refl
+    pub whole-given : Whole
+    whole-given = go of refl
       where
         go : (r : Result) → of ≡ r → Whole
         go (union U k) e =
@@ -86,52 +86,52 @@ module _ {book out : List ℕ} {number place : ℕ} {after : List ℕ} (given : 
             absurd (omega arith)
 
     abbrev U : List Question
-    U = all .members
+    U = whole-given .members
 
     total-is : place ≡ total U
-    total-is = place-is ∙ ap (λ (r : Result). answer r .1) (all .is)
+    total-is = place-is ∙ ap (λ (r : Result). answer r .1) (whole-given .is)
 
-    bytes-are : after ≡ unionBytes U (all .explored) ++ drop (total U) out
-    bytes-are = after-is ∙ ap (λ (r : Result). written r out) (all .is)
+    bytes-are : after ≡ unionBytes U (whole-given .explored) ++ drop (total U) out
+    bytes-are = after-is ∙ ap (λ (r : Result). written r out) (whole-given .is)
 
     -- a member of the run
-    pub kind : (M : Question) → M ∈ all .members → Member book M
-    kind M m = whole book (all .sound) (all .ran) .good M m
+    pub kind : (M : Question) → M ∈ whole-given .members → Member book M
+    kind M m = whole book (whole-given .sound) (whole-given .ran) .good M m
 
-    pub members-are : membersOf after ≡ all .members
+    pub members-are : membersOf after ≡ whole-given .members
     members-are =
         ap membersOf bytes-are
-        ∙ union-round U (all .explored) (drop (total U) out) (λ M m. desk-fits book (all .sound) (kind M m .fits))
+        ∙ union-round U (whole-given .explored) (drop (total U) out) (λ M m. desk-fits book (whole-given .sound) (kind M m .fits))
 
-    pub explored-is : exploredOf after ≡ all .explored
-    explored-is = ap exploredOf bytes-are ∙ explored-read U (all .explored) (drop (total U) out)
+    pub explored-is : exploredOf after ≡ whole-given .explored
+    explored-is = ap exploredOf bytes-are ∙ explored-read U (whole-given .explored) (drop (total U) out)
 
     -- "0 means complete, and the place is the total length written"; "It takes at most .. 2,632 bytes."
     pub place-most : place ≤ outputSize
     place-most =
-        let h = total-most U (members-most book (all .sound) (all .ran)) (λ M m. kind M m .fits .most) in
+        let h = total-most U (members-most book (whole-given .sound) (whole-given .ran)) (λ M m. kind M m .fits .most) in
         omega (arith, total-is)
 
     pub output-roomy : outputSize ≤ length out
-    output-roomy = all .roomy
+    output-roomy = whole-given .roomy
 
     -- "Bytes of the output after the total are not touched."
     pub rest-untouched : drop place after ≡ drop place out
     rest-untouched =
         ap (drop place) bytes-are
-        ∙ drop-at (unionBytes U (all .explored)) (drop (total U) out) place
-        (union-length U (all .explored) ∙ sym total-is)
+        ∙ drop-at (unionBytes U (whole-given .explored)) (drop (total U) out) place
+        (union-length U (whole-given .explored) ∙ sym total-is)
         ∙ ap (λ (n : ℕ). drop n out) (sym total-is)
 
     -- the bytes written say the run's members and its count of explored questions
     pub the-run : outcomeOf book ≡ complete (membersOf after) (exploredOf after)
-    the-run = all .ran ∙ ap₂ complete (sym members-are) (sym explored-is)
+    the-run = whole-given .ran ∙ ap₂ complete (sym members-are) (sym explored-is)
 
     pub the-bytes : take place after ≡ unionBytes (membersOf after) (exploredOf after)
     the-bytes =
         ap (take place) bytes-are
-        ∙ take-at (unionBytes U (all .explored)) (drop (total U) out) place
-        (union-length U (all .explored) ∙ sym total-is)
+        ∙ take-at (unionBytes U (whole-given .explored)) (drop (total U) out) place
+        (union-length U (whole-given .explored) ∙ sym total-is)
         ∙ ap₂ unionBytes (sym members-are) (sym explored-is)
 
   -- no byte more or less
@@ -142,10 +142,10 @@ module _ {book out : List ℕ} {number place : ℕ} {after : List ℕ} (given : 
       go (refusal m q) e = ap length (after-is ∙ ap (λ (r : Result). written r out) e)
       go (union U k) e =
           let zero : number ≡ 0 = number-is ∙ ap (λ (r : Result). answer r .0) e in
-          let front = union-length (all zero .members) (all zero .explored) in
+          let front = union-length (whole-given zero .members) (whole-given zero .explored) in
           let whole =
-          length-append (unionBytes (all zero .members) (all zero .explored)) (drop (total (all zero .members)) out) in
-          let back = length-drop (total (all zero .members)) out in
+          length-append (unionBytes (whole-given zero .members) (whole-given zero .explored)) (drop (total (whole-given zero .members)) out) in
+          let back = length-drop (total (whole-given zero .members)) out in
           let fits = place-most zero in
           let room = output-roomy zero in
           ap length (bytes-are zero) ∙ omega (arith, total-is zero)
@@ -153,6 +153,6 @@ module _ {book out : List ℕ} {number place : ℕ} {after : List ℕ} (given : 
   -- "0 means complete"
   pub complete-exactly : (number ≡ 0) ↔ ((U : List Question) × (k : ℕ) × Completes book (length out) U k)
   complete-exactly = (
-    λ zero. let w = all zero in (w .members, w .explored, completes-exactly book (length out) _ _ .0 (w .is)),
+    λ zero. let w = whole-given zero in (w .members, w .explored, completes-exactly book (length out) _ _ .0 (w .is)),
     λ c. number-is ∙ ap (λ (r : Result). answer r .0) (completes-exactly book (length out) (c .0) (c .1) .1 (c .2)),
   )

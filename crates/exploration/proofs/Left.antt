@@ -12,9 +12,10 @@ use Rattle.exploration.specs.Run.{Test, Limits, complete, runBy}
 use Rattle.exploration.specs.Steps.{Ends, completes}
 use Rattle.exploration.specs.Chain.{Apart}
 use Rattle.exploration.proofs.Ends.{run-ends}
-use Rattle.exploration.proofs.Kept.{taken-allowed}
+use Rattle.exploration.proofs.Invariant.{taken-allowed}
 use Rattle.exploration.proofs.States.{all-explored}
-use Rattle.exploration.proofs.Covered.{CoveredBy, members-apart, members-some, members-most, question-covered}
+use Rattle.exploration.proofs.Covered.{CoveredBy, members-apart, members-some, question-covered}
+use Rattle.exploration.proofs.Covered.{members-room}
 use Rattle.exploration.proofs.Covered.{explored-closed, members-good}
 
 module _ (Cov : Question → Question → Type 0) (steps : Question → List Question) (Q : Question)
@@ -53,7 +54,7 @@ module _ (Cov : Question → Question → Type 0) (steps : Question → List Que
 
         ended-most : {U : List Question} {n : ℕ} → 1 ≤ lim .room → Ends cov lim steps allowed Q (complete U n)
             → length U ≤ lim .room
-        ended-most one (completes c e) = members-most cov Cov decides itself chain lim steps allowed Q one c
+        ended-most one (completes c e) = members-room cov Cov decides itself chain lim steps allowed Q one c
 
         -- "it would be a 65th member": there is none
         pub complete-most : {U : List Question} {n : ℕ} → 1 ≤ lim .room

@@ -4,12 +4,12 @@
 pub mod Small
 -- one admission; the next rewriting; the run in single steps and where it ends
 pub mod Admits
-pub mod Taking
+pub mod YetToCome
 pub mod Turns
 pub mod Ends
 -- what holds wherever the run comes to, and what a complete run leaves
 pub mod States
-pub mod Kept
+pub mod Invariant
 pub mod Covered
 pub mod Left
 pub mod Raised
@@ -17,7 +17,7 @@ pub mod Raised
 pub mod Derived
 pub mod OfBook
 -- the union as bytes
-pub mod Written
+pub mod UnionBytes
 pub mod Members
 pub mod Standing
 -- refuses exactly; what follows from the contract

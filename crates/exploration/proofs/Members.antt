@@ -8,7 +8,8 @@ use native.Mathlib.Nat.{sub-eq-zero-of-le}
 use lib.ListN.{length, getD, take, drop, length-append}
 use lib.Seq.{getD-drop, drop-drop}
 use Rattle.covering.specs.Term.{Question}
-use Rattle.covering.specs.Record.{desk, atomsAt, questionOf, recordBytes, Sound}
+use Rattle.covering.specs.Record.{desk, atomsAt, questionOf, recordBytes}
+use Rattle.covering.specs.Record.{SoundRecord}
 use Rattle.covering.proofs.RoundTrip.{desk-apart}
 use Rattle.covering.proofs.Lengths.{count-atoms, record-long}
 use Rattle.covering.proofs.Begun.{begun-long, begun-record}
@@ -42,7 +43,7 @@ module _ (W : List ℕ) (at : ℕ) where
   pub member-width : length (recordBytes desk (questionOf desk (drop at W))) ≡ 1 + byte W at * 5
   member-width = begun-long desk (drop at W) ∙ ap (λ (n : ℕ). 1 + n * 5) count-from
 
-  pub member-bytes : Sound desk (drop at W)
+  pub member-bytes : SoundRecord desk (drop at W)
       → take (1 + byte W at * 5) (drop at W) ≡ recordBytes desk (questionOf desk (drop at W))
   member-bytes s =
       ap (λ (n : ℕ). take (1 + n * 5) (drop at W)) (sym count-from) ∙ begun-record desk (drop at W) desk-apart s

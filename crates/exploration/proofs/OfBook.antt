@@ -14,18 +14,19 @@ use Rattle.covering.specs.Record.{desk, Fits}
 use Rattle.covering.proofs.Preorder.{covers-refl, covers-trans}
 use Rattle.covering.proofs.Decides.{covers-decides}
 use Rattle.covering.proofs.Form.{form-equivalent}
-use Rattle.covering.proofs.Same.{form-form}
+use Rattle.covering.proofs.SameForm.{form-form}
 use Rattle.covering.proofs.Wider.{Wider, fits-wider}
 use Rattle.covering.specs.Rule.{Rule}
 use Rattle.reading.specs.Book.{bookOf, layoutOf}
-use Rattle.reading.specs.Verdict.{Sound}
-use Rattle.reading.proofs.Sound.{own-room, sound-header}
+use Rattle.reading.specs.Verdict.{SoundBook}
+use Rattle.reading.proofs.SoundBook.{own-room, sound-header}
 use Rattle.reading.proofs.Fits.{body-some, body-few, body-fits, head-fits, question-some, question-few, question-fits}
 use Rattle.unification.specs.Step.{Below, rewritings}
 use Rattle.unification.proofs.Collected.{gather-in, gather-out}
 use Rattle.exploration.specs.Run.{limits, State, complete, start, apart, allRewritings, exploring, runBy, run}
 use Rattle.exploration.specs.Steps.{within, Reaches}
-use Rattle.exploration.specs.Chain.{SomeHolds, Derives, Reached, first, next}
+use Rattle.exploration.specs.Chain.{SomeHolds, Derives, Reached}
+use Rattle.exploration.specs.Chain.{from-question, by-step}
 use Rattle.exploration.proofs.Small.{roomFor, RuleFits, fits-below, form-fits, rewriting-formed, rewriting-short}
 use Rattle.exploration.proofs.Small.{rewriting-fits}
 use Rattle.exploration.proofs.Covered.{taken-good}
@@ -47,8 +48,8 @@ module _ (B : List ℕ) where
   abbrev pub rulesOf : List Rule
   rulesOf = bookOf B .rules
 
-  abbrev pub questionOf : Question
-  questionOf = bookOf B .question
+  abbrev pub askedOf : Question
+  askedOf = bookOf B .question
 
   -- what each member is: a form of 1 to 8 atoms over the book's relations, places and constants with variables below
   -- 32, reached from the question
@@ -57,7 +58,7 @@ module _ (B : List ℕ) where
     pub formed : form M ≡ M
     pub reached : Reached apart (bookOf B .rules) (bookOf B .question) M
 
-  module _ (s : Sound B) where
+  module _ (s : SoundBook B) where
     -- its rules fit its own layout
     rules-fit : (r : Rule) → r ∈ bookOf B .rules → RuleFits (layoutOf B) r
     rules-fit r m =
@@ -68,14 +69,14 @@ module _ (B : List ℕ) where
           head = head-fits B (layoutOf B) (own-room B) s r m;
         }
 
-    pub first-member : Member (form questionOf)
+    pub first-member : Member (form askedOf)
     first-member =
         record {
           fits =
-              form-fits (layoutOf B) 8 questionOf (question-some B s) (question-few B s)
+              form-fits (layoutOf B) 8 askedOf (question-some B s) (question-few B s)
               (question-fits B (layoutOf B) (own-room B) s);
-          formed = form-form questionOf;
-          reached = first refl;
+          formed = form-form askedOf;
+          reached = from-question refl;
         }
 
     pub member-below : {M : Question} → Member M → Below apart M
@@ -89,7 +90,7 @@ module _ (B : List ℕ) where
         record {
           fits = rewriting-fits (layoutOf B) {cap = 8} (m .fits) (rules-fit (y .0) (y .1)) (y .2) 8 few;
           formed = rewriting-formed (layoutOf B) {cap = 8} (m .fits) (rules-fit (y .0) (y .1)) (y .2);
-          reached = next (y .0) (y .1) (member-below m) (m .reached) (y .2);
+          reached = by-step (y .0) (y .1) (member-below m) (m .reached) (y .2);
         }
 
     -- each question that is taken up is a member's like
@@ -99,28 +100,28 @@ module _ (B : List ℕ) where
         → Member M
     taken-member c =
         taken-good covers Covers covers-decides covers-refl (λ A C D. covers-trans) limits (allRewritings rulesOf)
-        (bookOf B .allowed) questionOf Member first-member next-member c
+        (bookOf B .allowed) askedOf Member first-member next-member c
 
-    module _ {U : List Question} {n : ℕ} (e : run rulesOf (bookOf B .allowed) questionOf ≡ complete U n) where
-      by : runBy covers limits (allRewritings rulesOf) (bookOf B .allowed) questionOf ≡ complete U n
-      by = sym (run-is rulesOf (bookOf B .allowed) questionOf) ∙ e
+    module _ {U : List Question} {n : ℕ} (e : run rulesOf (bookOf B .allowed) askedOf ≡ complete U n) where
+      by : runBy covers limits (allRewritings rulesOf) (bookOf B .allowed) askedOf ≡ complete U n
+      by = sym (run-is rulesOf (bookOf B .allowed) askedOf) ∙ e
 
-      pub whole : Left Covers (allRewritings rulesOf) questionOf Member U
+      pub whole : Left Covers (allRewritings rulesOf) askedOf Member U
       whole =
-          complete-left Covers (allRewritings rulesOf) questionOf Member covers covers-decides covers-refl
-          (λ A C D. covers-trans) limits (bookOf B .allowed) first-member (form-equivalent questionOf .1) next-member
+          complete-left Covers (allRewritings rulesOf) askedOf Member covers covers-decides covers-refl
+          (λ A C D. covers-trans) limits (bookOf B .allowed) first-member (form-equivalent askedOf .1) next-member
           by
 
       pub members-most : length U ≤ 64
       members-most =
-          complete-most Covers (allRewritings rulesOf) questionOf Member covers covers-decides covers-refl
-          (λ A C D. covers-trans) limits (bookOf B .allowed) first-member (form-equivalent questionOf .1) next-member
+          complete-most Covers (allRewritings rulesOf) askedOf Member covers covers-decides covers-refl
+          (λ A C D. covers-trans) limits (bookOf B .allowed) first-member (form-equivalent askedOf .1) next-member
           (omega arith) by
 
       pub explored-allowed : n ≤ bookOf B .allowed
-      explored-allowed = complete-taken covers limits (allRewritings rulesOf) (bookOf B .allowed) questionOf by
+      explored-allowed = complete-taken covers limits (allRewritings rulesOf) (bookOf B .allowed) askedOf by
 
-      pub is-union : Union apart rulesOf questionOf U
+      pub is-union : Union apart rulesOf askedOf U
       is-union =
           record {
             small = λ M m. member-below (whole .good M m);
@@ -131,8 +132,8 @@ module _ (B : List ℕ) where
           }
 
       -- for every list of facts some member holds in it exactly when rule application makes the question hold
-      pub run-answers : (F : Question) → SomeHolds U F ↔ Derives rulesOf questionOf F
-      run-answers = union-answers apart rulesOf questionOf U is-union
+      pub run-answers : (F : Question) → SomeHolds U F ↔ Derives rulesOf askedOf F
+      run-answers = union-answers apart rulesOf askedOf U is-union
 
     -- the desk's record has room for members, and for rewritings of members before they are counted
     wider : (m : ℕ) → m ≤ 11 → Wider (roomFor (layoutOf B) m) desk

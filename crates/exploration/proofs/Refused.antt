@@ -13,15 +13,17 @@ use Rattle.covering.specs.Term.{Question}
 use Rattle.covering.specs.Search.{covers}
 use Rattle.covering.proofs.Tests.{decide, clash, cond-yes, cond-no}
 use Rattle.reading.specs.Book.{bookOf}
-use Rattle.reading.specs.Refusals.{Applies as OfBook}
-use Rattle.reading.specs.Verdict.{IsVerdict, sound, refused as refused-book, verdict, Sound}
+use Rattle.reading.specs.Refusals.{ApplicableToBook}
+use Rattle.reading.specs.Verdict.{IsVerdict, sound, refused as refused-book, verdict}
+use Rattle.reading.specs.Verdict.{SoundBook}
 use Rattle.reading.proofs.Exact.{verdict-exact, number-from}
-use Rattle.reading.proofs.Sound.{sound-none}
-use Rattle.exploration.specs.Run.{limits, Why, too-long, no-room, none-left, number, Outcome, complete, refused}
+use Rattle.reading.proofs.SoundBook.{sound-none}
+use Rattle.exploration.specs.Run.{limits, Why, too-long, no-room, none-left, refusalNumber, Outcome, complete, refused}
 use Rattle.exploration.specs.Run.{allRewritings}
 use Rattle.exploration.specs.Union.{outputSize}
 use Rattle.exploration.specs.Answer.{Result, union, refusal, resultOf, outcomeOf, result}
-use Rattle.exploration.specs.Refusals.{Applies, one, of-book, RunEnds, Refuses, smallest, met, Completes}
+use Rattle.exploration.specs.Refusals.{one, of-book, RunEnds, Refuses, smallest, met, Completes}
+use Rattle.exploration.specs.Refusals.{Applicable}
 use Rattle.exploration.proofs.Ends.{run-ends, ends-only}
 use Rattle.exploration.proofs.OfBook.{run-is}
 
@@ -38,12 +40,12 @@ module _ (B : List ℕ) where
       ∙ ends-only covers limits (allRewritings (bookOf B .rules)) (bookOf B .allowed) (bookOf B .question) e
 
   -- a refused book
-  verdict-refused : ¬ (Sound B) → OfBook B (verdict B .number) (verdict B .place)
-      × ((m q : ℕ) → OfBook B m q → (verdict B .number < m) ⊎ ((verdict B .number ≡ m) × (verdict B .place ≤ q)))
+  verdict-refused : ¬ (SoundBook B) → ApplicableToBook B (verdict B .number) (verdict B .place)
+      × ((m q : ℕ) → ApplicableToBook B m q → (verdict B .number < m) ⊎ ((verdict B .number ≡ m) × (verdict B .place ≤ q)))
   verdict-refused f = go (verdict-exact B)
     where
-      go : IsVerdict B (verdict B) → OfBook B (verdict B .number) (verdict B .place)
-          × ((m q : ℕ) → OfBook B m q → (verdict B .number < m) ⊎ ((verdict B .number ≡ m) × (verdict B .place ≤ q)))
+      go : IsVerdict B (verdict B) → ApplicableToBook B (verdict B .number) (verdict B .place)
+          × ((m q : ℕ) → ApplicableToBook B m q → (verdict B .number < m) ⊎ ((verdict B .number ≡ m) × (verdict B .place ≤ q)))
       go (sound e g) = absurd (f (ap (λ v. v .number) e))
       go (refused-book a g) = (a, g)
 
@@ -51,8 +53,8 @@ module _ (B : List ℕ) (room : ℕ) where
   -- the three ways in which a result comes about
   pub data Comes : Result → Type 0 where
     small : room < outputSize → Comes (refusal 1 0)
-    unsound : outputSize ≤ room → ¬ (Sound B) → Comes (refusal (verdict B .number) (verdict B .place))
-    ran : outputSize ≤ room → Sound B → Comes (resultOf (outcomeOf B))
+    unsound : outputSize ≤ room → ¬ (SoundBook B) → Comes (refusal (verdict B .number) (verdict B .place))
+    ran : outputSize ≤ room → SoundBook B → Comes (resultOf (outcomeOf B))
 
   pub result-comes : Comes (result B room)
   unfolding result
@@ -77,15 +79,15 @@ module _ (B : List ℕ) (room : ℕ) where
           (second (nltb→le room outputSize t) (decide (eqb (verdict B .number) 0)))
 
   -- what applies has a number from 1 on, and place 0 where that is 1
-  applies-from : {n p : ℕ} → Applies B room n p → 1 ≤ n
+  applies-from : {n p : ℕ} → Applicable B room n p → 1 ≤ n
   applies-from (one l) = omega arith
   applies-from (of-book a) = let h = number-from B a in omega arith
 
-  applies-book : {n p : ℕ} → outputSize ≤ room → Applies B room n p → OfBook B n p
+  applies-book : {n p : ℕ} → outputSize ≤ room → Applicable B room n p → ApplicableToBook B n p
   applies-book l (one m) = absurd (omega arith)
   applies-book l (of-book a) = a
 
-  nothing-applies : outputSize ≤ room → Sound B → (m q : ℕ) → Applies B room m q → ⊥
+  nothing-applies : outputSize ≤ room → SoundBook B → (m q : ℕ) → Applicable B room m q → ⊥
   nothing-applies l s m q a = sound-none B s m q (applies-book l a)
 
   -- what a result says
@@ -93,7 +95,7 @@ module _ (B : List ℕ) (room : ℕ) where
   Says (union U k) = Completes B room U k
   Says (refusal n p) = Refuses B room n p
 
-  outcome-says : outputSize ≤ room → Sound B → (o : Outcome) → RunEnds B o → Says (resultOf o)
+  outcome-says : outputSize ≤ room → SoundBook B → (o : Outcome) → RunEnds B o → Says (resultOf o)
   outcome-says l s (complete U k) e = record { nothing = nothing-applies l s; ends = e }
   outcome-says l s (refused w p) e = met (nothing-applies l s) w refl e
 
@@ -152,7 +154,7 @@ module _ (B : List ℕ) (room : ℕ) where
   completes-exactly U k = ((λ e. subst Says e result-says), (λ c. says-one (result B room) (union U k) result-says c))
 
   -- a refusal's number is not 0
-  why-number : (w : Why) → 1 ≤ number w
+  why-number : (w : Why) → 1 ≤ refusalNumber w
   why-number too-long = omega arith
   why-number no-room = omega arith
   why-number none-left = omega arith
@@ -167,10 +169,10 @@ module _ (B : List ℕ) (room : ℕ) where
   outcome-union (refused w p) e = let z : _≡_ {A = ℕ} 0 1 = cc in absurd (omega arith)
 
   pub ran-union : {U : List Question} {k : ℕ} → result B room ≡ union U k
-      → (outputSize ≤ room) × Sound B × (outcomeOf B ≡ complete U k)
+      → (outputSize ≤ room) × SoundBook B × (outcomeOf B ≡ complete U k)
   ran-union {U} {k} e = go result-comes e
     where
-      go : {r : Result} → Comes r → r ≡ union U k → (outputSize ≤ room) × Sound B × (outcomeOf B ≡ complete U k)
+      go : {r : Result} → Comes r → r ≡ union U k → (outputSize ≤ room) × SoundBook B × (outcomeOf B ≡ complete U k)
       go (small l) q = let z : _≡_ {A = ℕ} 0 1 = cc in absurd (omega arith)
       go (unsound l f) q = let z : _≡_ {A = ℕ} 0 1 = cc in absurd (omega arith)
       go (ran l s) q = (l, s, outcome-union (outcomeOf B) q)

@@ -8,8 +8,9 @@ use lib.Dec.{eqb, ltb}
 use borrow.Author.Tests.{le-ltb, eq-eqb, ne-eqb, lt-ltb}
 use lib.ListN.{length, drop}
 use Rattle.covering.specs.Term.{Question}
-use Rattle.reading.specs.Verdict.{verdict, Sound}
-use Rattle.exploration.specs.Run.{Why, number, complete, refused}
+use Rattle.reading.specs.Verdict.{verdict}
+use Rattle.reading.specs.Verdict.{SoundBook}
+use Rattle.exploration.specs.Run.{Why, refusalNumber, complete, refused}
 use Rattle.exploration.specs.Union.{outputSize, total, unionBytes}
 use Rattle.exploration.specs.Answer.{Result, union, refusal, resultOf, outcomeOf, result, answer, written}
 use Rattle.exploration.specs.Answer.{answerOf, writtenOf, Answers}
@@ -37,7 +38,7 @@ module _ (book out : List ℕ) where
     result-read : result book (length out) ≡ read
     result-read = result-is ∙ ap (λ b. cond b (refusal 1 0) read) (le-ltb (length out) outputSize roomy)
 
-    pub returns-unsound : (Sound book → ⊥) → Answers book out (verdict book .number) (verdict book .place) out
+    pub returns-unsound : (SoundBook book → ⊥) → Answers book out (verdict book .number) (verdict book .place) out
     unfolding read
     returns-unsound f =
         given (refusal (verdict book .number) (verdict book .place))
@@ -46,7 +47,7 @@ module _ (book out : List ℕ) where
         (λ b. cond b (resultOf (outcomeOf book)) (refusal (verdict book .number) (verdict book .place)))
         (ne-eqb (verdict book .number) 0 f))
 
-    module _ (sound : Sound book) where
+    module _ (sound : SoundBook book) where
       result-ran : result book (length out) ≡ resultOf (outcomeOf book)
       unfolding read
       result-ran =
@@ -55,8 +56,8 @@ module _ (book out : List ℕ) where
           (λ b. cond b (resultOf (outcomeOf book)) (refusal (verdict book .number) (verdict book .place)))
           (eq-eqb (verdict book .number) 0 sound)
 
-      pub returns-refused : {w : Why} {p : ℕ} → outcomeOf book ≡ refused w p → Answers book out (number w) p out
-      returns-refused {w} {p} e = given (refusal (number w) p) (result-ran ∙ ap resultOf e)
+      pub returns-refused : {w : Why} {p : ℕ} → outcomeOf book ≡ refused w p → Answers book out (refusalNumber w) p out
+      returns-refused {w} {p} e = given (refusal (refusalNumber w) p) (result-ran ∙ ap resultOf e)
 
       pub returns-union : {U : List Question} {n : ℕ} → outcomeOf book ≡ complete U n
           → Answers book out 0 (total U) (unionBytes U n ++ drop (total U) out)

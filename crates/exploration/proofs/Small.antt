@@ -15,7 +15,7 @@ use Rattle.covering.specs.Record.{Layout, TermFits, AtomFits, Fits}
 use Rattle.covering.proofs.Lists.{in-some, first-in}
 use Rattle.covering.proofs.Terms.{var≢con, con-inj, terms-in, terms-out}
 use Rattle.covering.proofs.Form.{form-equivalent}
-use Rattle.covering.proofs.Same.{form-form}
+use Rattle.covering.proofs.SameForm.{form-form}
 use Rattle.covering.specs.Rule.{Rule}
 use Rattle.unification.specs.Choice.{left}
 use Rattle.unification.specs.Step.{up, move, Below, rewriting, rewritings}

@@ -8,7 +8,8 @@ use lib.ListN.{length, getD, drop, length-drop}
 use lib.Seq.{drop-drop, drop-at, getD-drop}
 use Rattle.covering.specs.Lists.{_∈_}
 use Rattle.covering.specs.Term.{Question}
-use Rattle.covering.specs.Record.{desk, recordBytes, Fits, Sound}
+use Rattle.covering.specs.Record.{desk, recordBytes, Fits}
+use Rattle.covering.specs.Record.{SoundRecord}
 use Rattle.covering.proofs.Lengths.{record-is, record-long}
 use Rattle.covering.proofs.RoundTrip.{desk-apart}
 use Rattle.covering.proofs.Begun.{begun-sound}
@@ -25,7 +26,7 @@ module _ (W : List ℕ) where
   unfolding Standing
   members-stand i [] R fits e = tt
   members-stand i (M ∷ U) R fits e = (
-    subst (Sound desk) (sym here)
+    subst (SoundRecord desk) (sym here)
         (begun-sound desk desk-apart M (membersBytes U ++ R) (fits M (List·Memᴰ·head refl))),
     subst (λ (k : ℕ). Standing W k (length U)) end
         (members-stand (i + length (recordBytes desk M)) U R (λ N x. fits N (List·Memᴰ·tail x)) next),
@@ -55,7 +56,7 @@ module _ (W : List ℕ) where
 
 -- what is known of the member at a place where one stands
 pub record Here (W : List ℕ) (at n : ℕ) : Type 0 where
-  pub sound : Sound desk (drop at W)
+  pub sound : SoundRecord desk (drop at W)
   pub most : byte W at ≤ 11
   pub within : at + (1 + byte W at * 5) ≤ length W
   pub rest : Standing W (at + (1 + byte W at * 5)) n
@@ -63,7 +64,7 @@ pub record Here (W : List ℕ) (at n : ℕ) : Type 0 where
 pub stands : (W : List ℕ) (at i n : ℕ) → i < n → Standing W at (n - i) → Here W at (n - (i + 1))
 unfolding Standing
 stands W at i n h s =
-    let m : Sound desk (drop at W) × Standing W (memberEnd W at) (n - (i + 1)) =
+    let m : SoundRecord desk (drop at W) × Standing W (memberEnd W at) (n - (i + 1)) =
     subst (Standing W at) (one-more n i h) s in
     let e = count-from W at in
     record {

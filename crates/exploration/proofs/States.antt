@@ -14,7 +14,8 @@ use Rattle.covering.specs.Lists.{_∈_, keep, head}
 use Rattle.covering.specs.Term.{Question}
 use Rattle.covering.proofs.Lists.{keep-in, keep-out, keep-append}
 use Rattle.covering.proofs.Tests.{none≢some, cond-yes}
-use Rattle.exploration.specs.Run.{Test, State, oldest, takenUp, without, appended}
+use Rattle.exploration.specs.Run.{Test, State, oldest, takenUp, appended}
+use Rattle.exploration.specs.Run.{remaining}
 
 module _ {A : Type 0} where
   -- of those in front the ones that are kept stay in front
@@ -78,17 +79,17 @@ module _ (cov : Test) (s : State) (P : Question) where
   stays m t = Memᴰ·append-left (P ∷ []) (keep-in (λ N. not (cov P N)) (s .members) m t)
 
   pub new-in : P ∈ appended cov s P .members
-  new-in = Memᴰ·append-right (without cov P (s .members)) (List·Memᴰ·head refl)
+  new-in = Memᴰ·append-right (remaining cov P (s .members)) (List·Memᴰ·head refl)
 
   pub member-cases : {N : Question} → N ∈ appended cov s P .members → ((N ∈ s .members) × T (not (cov P N))) ⊎ (N ≡ P)
-  member-cases {N} m = go (List·Memᴰ·append-cases (without cov P (s .members)) m)
+  member-cases {N} m = go (List·Memᴰ·append-cases (remaining cov P (s .members)) m)
     where
-      go : (N ∈ without cov P (s .members)) ⊎ (N ∈ P ∷ []) → ((N ∈ s .members) × T (not (cov P N))) ⊎ (N ≡ P)
+      go : (N ∈ remaining cov P (s .members)) ⊎ (N ∈ P ∷ []) → ((N ∈ s .members) × T (not (cov P N))) ⊎ (N ≡ P)
       go (inl x) = inl (keep-out (λ N. not (cov P N)) (s .members) x)
       go (inr x) = inr (List·Memᴰ·eq-of-singleton x)
 
   -- the explored ones are those of before that stay, so they stand in front again
-  pub explored-stay : explored (appended cov s P) ≡ without cov P (explored s)
+  pub explored-stay : explored (appended cov s P) ≡ remaining cov P (explored s)
   explored-stay = keep-front (λ N. not (cov P N)) (s .explored) (s .members) (P ∷ [])
 
   pub explored-out : {N : Question} → N ∈ explored (appended cov s P) → (N ∈ explored s) × T (not (cov P N))
@@ -106,9 +107,9 @@ module _ (cov : Test) (s : State) (P : Question) where
 
   -- the last of the explored ones stays the last unless it is removed
   pub last-stays : (M : Question) (front : List Question) → T (not (cov P M)) → explored s ≡ front ++ M ∷ []
-      → explored (appended cov s P) ≡ without cov P front ++ M ∷ []
+      → explored (appended cov s P) ≡ remaining cov P front ++ M ∷ []
   last-stays M front t e =
       explored-stay
-      ∙ ap (without cov P) e
+      ∙ ap (remaining cov P) e
       ∙ keep-append (λ N. not (cov P N)) front (M ∷ [])
-      ∙ ap (λ (l : List Question). without cov P front ++ l) (cond-yes (not (cov P M)) (M ∷ []) [] t)
+      ∙ ap (λ (l : List Question). remaining cov P front ++ l) (cond-yes (not (cov P M)) (M ∷ []) [] t)

@@ -9,7 +9,7 @@ use lib.ListN.{length, drop}
 use Rattle.covering.specs.Term.{Question}
 use Rattle.reading.specs.Book.{bookOf}
 use Rattle.reading.specs.Verdict.{verdict}
-use Rattle.exploration.specs.Run.{Outcome, complete, refused, number, run}
+use Rattle.exploration.specs.Run.{Outcome, complete, refused, refusalNumber, run}
 use Rattle.exploration.specs.Union.{outputSize, total, unionBytes}
 
 -- a union and how many questions were explored, or a refusal's number and place
@@ -20,7 +20,7 @@ pub data Result : Type 0 where
 -- 8 to 10 "come as the exploration meets them"
 abbrev pub resultOf : Outcome → Result
 resultOf (complete U n) = union U n
-resultOf (refused w p) = refusal (number w) p
+resultOf (refused w p) = refusal (refusalNumber w) p
 
 -- the run of the book's rules, explorations allowed and question
 abbrev pub outcomeOf : List ℕ → Outcome

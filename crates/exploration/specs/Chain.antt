@@ -46,8 +46,8 @@ Derives rules Q F = (G : Question) × Chain rules G F × Holds Q G
 -- P is reached from Q by rewriting steps: "The question is put in this form before it starts." In each step "the
 -- rule's variables are kept apart from the question's", by k
 pub data Reached (k : ℕ) (rules : List Rule) (Q : Question) : Question → Type 0 where
-  first : {P : Question} → P ≡ form Q → Reached k rules Q P
-  next : {M P : Question} (r : Rule) → r ∈ rules → Below k M → Reached k rules Q M → P ∈ rewritings k r M
+  from-question : {P : Question} → P ≡ form Q → Reached k rules Q P
+  by-step : {M P : Question} (r : Rule) → r ∈ rules → Below k M → Reached k rules Q M → P ∈ rewritings k r M
       → Reached k rules Q P
 
 -- no member covers another

@@ -8,17 +8,17 @@ use Prim.Native.Nat.{ℕ, _≤_, _<_}
 use Rattle.covering.specs.Term.{Question}
 use Rattle.covering.specs.Search.{covers}
 use Rattle.reading.specs.Book.{bookOf}
-use Rattle.reading.specs.Refusals.{Applies as OfBook}
-use Rattle.exploration.specs.Run.{limits, Why, number, Outcome, complete, refused, allRewritings}
+use Rattle.reading.specs.Refusals.{ApplicableToBook}
+use Rattle.exploration.specs.Run.{limits, Why, refusalNumber, Outcome, complete, refused, allRewritings}
 use Rattle.exploration.specs.Steps.{Ends}
 use Rattle.exploration.specs.Union.{outputSize}
 
 -- "| no. | when | place |", 1 to 7
-pub data Applies (B : List ℕ) (room : ℕ) : ℕ → ℕ → Type 0 where
+pub data Applicable (B : List ℕ) (room : ℕ) : ℕ → ℕ → Type 0 where
   -- 1: "output under 2,632 bytes", at 0
-  one : room < outputSize → Applies B room 1 0
+  one : room < outputSize → Applicable B room 1 0
   -- 2 to 7 are the book's
-  of-book : {n p : ℕ} → OfBook B n p → Applies B room n p
+  of-book : {n p : ℕ} → ApplicableToBook B n p → Applicable B room n p
 
 -- the run of the book ends so
 abbrev pub RunEnds : List ℕ → Outcome → Type 0
@@ -27,13 +27,13 @@ RunEnds B o = Ends covers limits (allRewritings (bookOf B .rules)) (bookOf B .al
 -- number n at place p
 pub data Refuses (B : List ℕ) (room n p : ℕ) : Type 0 where
   -- "The smallest applicable number among 1 to 7 wins, and within it the earliest place."
-  smallest : Applies B room n p → ((m q : ℕ) → Applies B room m q → (n < m) ⊎ ((n ≡ m) × (p ≤ q)))
+  smallest : Applicable B room n p → ((m q : ℕ) → Applicable B room m q → (n < m) ⊎ ((n ≡ m) × (p ≤ q)))
       → Refuses B room n p
   -- "Then 8 to 10 come as the exploration meets them, 8 before 9."
-  met : ((m q : ℕ) → Applies B room m q → ⊥) → (w : Why) → n ≡ number w → RunEnds B (refused w p)
+  met : ((m q : ℕ) → Applicable B room m q → ⊥) → (w : Why) → n ≡ refusalNumber w → RunEnds B (refused w p)
       → Refuses B room n p
 
 -- "0 means complete"
 pub record Completes (B : List ℕ) (room : ℕ) (U : List Question) (explored : ℕ) : Type 0 where
-  pub nothing : (m q : ℕ) → Applies B room m q → ⊥
+  pub nothing : (m q : ℕ) → Applicable B room m q → ⊥
   pub ends : RunEnds B (complete U explored)

@@ -40,10 +40,10 @@ pub data Why : Type 0 where
 
 -- "8 | an uncovered rewriting has more than 8 atoms", "9 | it would be a 65th member", "10 | a member is unexplored
 -- and L have been taken up"
-abbrev pub number : Why → ℕ
-number too-long = 8
-number no-room = 9
-number none-left = 10
+abbrev pub refusalNumber : Why → ℕ
+refusalNumber too-long = 8
+refusalNumber no-room = 9
+refusalNumber none-left = 10
 
 -- what becomes of one rewriting
 pub data Admission : Type 0 where
@@ -93,15 +93,15 @@ module _ (cov : Test) where
   covered P U = any (λ M. cov M P) U
 
   -- "remove every member that it covers"
-  abbrev pub without : Question → List Question → List Question
-  without P U = keep (λ M. not (cov P M)) U
+  abbrev pub remaining : Question → List Question → List Question
+  remaining P U = keep (λ M. not (cov P M)) U
 
   -- ".. and append it"
   abbrev pub appended : State → Question → State
   appended s P =
       record {
-        members = without P (s .members) ++ P ∷ [];
-        explored = length (without P (take (s .explored) (s .members)));
+        members = remaining P (s .members) ++ P ∷ [];
+        explored = length (remaining P (take (s .explored) (s .members)));
       }
 
   module _ (lim : Limits) where
@@ -110,7 +110,7 @@ module _ (cov : Test) where
     unfoldable pub admit : State → Question → Admission
     admit s P =
         let last = admitted (appended s P) in
-        let nine = cond (ltb (length (without P (s .members))) (lim .room)) last (stopped no-room) in
+        let nine = cond (ltb (length (remaining P (s .members))) (lim .room)) last (stopped no-room) in
         let eight = cond (ltb (lim .cap) (length P)) (stopped too-long) nine in
         cond (covered P (s .members)) dropped eight
 

@@ -9,7 +9,8 @@ use lib.Dec.{T}
 use lib.ListN.{length}
 use Rattle.covering.specs.Term.{Question}
 use Rattle.exploration.specs.Run.{Test, Limits, State, too-long, no-room, none-left, Outcome, complete, refused}
-use Rattle.exploration.specs.Run.{oldest, takenUp, start, covered, without, appended}
+use Rattle.exploration.specs.Run.{oldest, takenUp, start, covered, appended}
+use Rattle.exploration.specs.Run.{remaining}
 
 -- Between two explorations, so many questions taken up; or exploring a member, these of its rewritings yet to come.
 pub data Position : Type 0 where
@@ -25,7 +26,7 @@ module _ (cov : Test) (lim : Limits) where
   -- and there is room for it when the members that it covers are removed
   pub record Admitted (s : State) (P : Question) : Type 0 where
     pub new : New s P
-    pub fits : length (without cov P (s .members)) < lim .room
+    pub fits : length (remaining cov P (s .members)) < lim .room
 
   module _ (steps : Question → List Question) (allowed : ℕ) (Q : Question) where
     pub data Reaches : Position → Type 0 where
@@ -55,7 +56,7 @@ module _ (cov : Test) (lim : Limits) where
           → T (not (covered cov P (s .members))) → lim .cap < length P → Ends (refused too-long n)
       -- 9: "it would be a 65th member", at "questions taken up"
       nine : {M P : Question} {Ps : List Question} {s : State} {n : ℕ} → Reaches (within M (P ∷ Ps) s n)
-          → New s P → lim .room ≤ length (without cov P (s .members)) → Ends (refused no-room n)
+          → New s P → lim .room ≤ length (remaining cov P (s .members)) → Ends (refused no-room n)
       -- 10: "a member is unexplored and L have been taken up", at "L"
       ten : {M : Question} {s : State} → Reaches (between s allowed) → oldest s ≡ some M
           → Ends (refused none-left allowed)

@@ -18,17 +18,19 @@ use Rattle.reading.specs.declared.Header.{Header}
 use Rattle.book.specs.declared.Parts.{Parts}
 use Rattle.reading.specs.Header.{rules, HeaderRead}
 use Rattle.book.specs.Parts.{StartsAt, partsAt}
-use Rattle.reading.specs.Verdict.{Sound as SoundBook}
-use Rattle.reading.proofs.Sound.{sound-header, sound-rule, sound-question}
+use Rattle.reading.specs.Verdict.{SoundBook}
+use Rattle.reading.proofs.SoundBook.{sound-header, sound-rule, sound-question}
 use Rattle.reading.specs.Book.{ruleAt, rulesFrom, ruleStart}
 use Rattle.reading.proofs.Reading.{rules-none, rules-more}
 use Rattle.unify.specs.declared.Found.{Found}
-use Rattle.unify.specs.Held.{ruleOf, answered, RuleIn, QuestionIn}
+use Rattle.unify.specs.InBytes.{ruleOf, RuleIn, QuestionIn}
+use Rattle.unify.specs.InBytes.{foundOf}
 use Rattle.unify.proofs.FromBook.{rule-in, rule-is, found-within}
 use Rattle.unification.specs.Choice.{mostChoices}
 use Rattle.unification.specs.Step.{next}
 use Rattle.exploration.specs.Run.{apart}
-use Rattle.explore.specs.Taking.{Numbered, orLater, nextAmong, taken}
+use Rattle.explore.specs.Taking.{orLater, nextAmong, taken}
+use Rattle.explore.specs.Taking.{NumberedRewriting}
 use Rattle.exploration.specs.Union.{membersFrom, firstAt}
 use Rattle.exploration.specs.Standing.{Standing}
 use Rattle.exploration.proofs.Standing.{Here, stands}
@@ -46,16 +48,16 @@ module _ (B : List ℕ) where
     unfolding nextAmong
     among-more h = ap (nextAmong M k n) (rules-more B (rules B) k h)
 
-    module _ (h : k < rules B) (f : Found) (e : f ≡ answered (next apart (ruleAt B (ruleStart B k)) M n)) where
+    module _ (h : k < rules B) (f : Found) (e : f ≡ foundOf (next apart (ruleAt B (ruleStart B k)) M n)) where
       pub among-found : f .found ≡ true
           → record { found = true; rule = k; choice = f .choice; rewriting = f .rewriting }
           ≡ taken (nextAmong M k n (rulesFrom B (ruleStart B k) (rules B - k)))
       among-found t = go (next apart (ruleAt B (ruleStart B k)) M n) e ∙ ap taken (sym (among-more h))
         where
-          later : Option Numbered
+          later : Option NumberedRewriting
           later = nextAmong M (suc k) 0 (rulesFrom B (ruleStart B (k + 1)) (rules B - (k + 1)))
 
-          go : (o : Option (ℕ × Question)) → f ≡ answered o
+          go : (o : Option (ℕ × Question)) → f ≡ foundOf o
               → record { found = true; rule = k; choice = f .choice; rewriting = f .rewriting } ≡ taken (orLater k o later)
           go none x = absurd (true≢false (sym t ∙ ap (λ (y : Found). y .found) x))
           go (some y) x =
@@ -72,10 +74,10 @@ module _ (B : List ℕ) where
           one-more : (k : ℕ) → suc k ≡ k + 1
           one-more k = omega arith
 
-          later : Option Numbered
+          later : Option NumberedRewriting
           later = nextAmong M (suc k) 0 (rulesFrom B (ruleStart B (k + 1)) (rules B - (k + 1)))
 
-          go : (o : Option (ℕ × Question)) → f ≡ answered o → orLater k o later ≡ later
+          go : (o : Option (ℕ × Question)) → f ≡ foundOf o → orLater k o later ≡ later
           go none x = refl
           go (some y) x = absurd (true≢false (sym (ap (λ (g : Found). g .found) x) ∙ t))
 
@@ -133,13 +135,13 @@ module _ (B : List ℕ) (s : SoundBook B) where
       pub parts-in : RuleIn B p
       parts-in = subst (RuleIn B) (sym parts-are) (rule-in B s k l)
 
-      pub found-is : (M : Question) (n : ℕ) (f : Found) → f ≡ answered (next 32 (ruleOf B p) M n)
-          → f ≡ answered (next apart (ruleAt B (ruleStart B k)) M n)
+      pub found-is : (M : Question) (n : ℕ) (f : Found) → f ≡ foundOf (next 32 (ruleOf B p) M n)
+          → f ≡ foundOf (next apart (ruleAt B (ruleStart B k)) M n)
       found-is M n f x =
           x
-          ∙ ap (λ (q : Parts). answered (next 32 (ruleOf B q) M n)) parts-are
-          ∙ ap (λ (r : Rule). answered (next 32 r M n)) (rule-is B (ruleStart B k))
+          ∙ ap (λ (q : Parts). foundOf (next 32 (ruleOf B q) M n)) parts-are
+          ∙ ap (λ (r : Rule). foundOf (next 32 r M n)) (rule-is B (ruleStart B k))
 
       pub few-choices : (Q : List ℕ) → QuestionIn Q → (n : ℕ) (f : Found)
-          → f ≡ answered (next 32 (ruleOf B p) (questionOf desk Q) n) → f .found ≡ true → f .choice < mostChoices
+          → f ≡ foundOf (next 32 (ruleOf B p) (questionOf desk Q) n) → f .found ≡ true → f .choice < mostChoices
       few-choices Q q n f x t = found-within Q B p q parts-in n f x t .1

@@ -1,4 +1,4 @@
--- Laws of a working array in order (`specs/Held`, `Working`): members that stand, split and read elsewhere; an array
+-- Laws of a working array in order (`specs/WorkingArray`, `Working`): members that stand, split and read elsewhere; an array
 -- that holds a state is in order, and its state is that one; the removal of all that a rewriting covers. Assumes
 -- nothing.
 use mathlib.Core.Path.{_≡_, sym, _∙_, ap, ap₂, subst}
@@ -11,16 +11,19 @@ use lib.Seq.{drop-at, take-at, length-take-le}
 use Rattle.covering.specs.Lists.{_∈_}
 use Rattle.covering.specs.Term.{Question}
 use Rattle.covering.specs.Search.{covers}
-use Rattle.covering.specs.Record.{desk, Fits, Sound}
+use Rattle.covering.specs.Record.{desk, Fits}
+use Rattle.covering.specs.Record.{SoundRecord}
 use Rattle.covering.proofs.Lists.{keep-few, keep-append}
 use Rattle.covering.proofs.Lists.{keep-out}
 use Rattle.explore.specs.declared.Extent.{Extent}
 use Rattle.explore.specs.declared.Moved.{Moved}
-use Rattle.exploration.specs.Run.{State, without}
+use Rattle.exploration.specs.Run.{State}
+use Rattle.exploration.specs.Run.{remaining}
 use Rattle.exploration.specs.Union.{membersBytes, membersFrom, memberEnd, firstAt, outputSize}
-use Rattle.explore.specs.Held.{Held, stateOf, Working, Kept, rest}
+use Rattle.explore.specs.WorkingArray.{Working, rest}
+use Rattle.explore.specs.WorkingArray.{HoldsState, stateIn, Remain}
 use Rattle.exploration.specs.Standing.{Standing}
-use Rattle.exploration.proofs.Written.{total-is, total-most, members-append}
+use Rattle.exploration.proofs.UnionBytes.{total-is, total-most, members-append}
 use Rattle.explore.proofs.Stand.{held-stands, held-members}
 use Rattle.exploration.proofs.Members.{members-count, ending, ending-none, ending-next, members-split}
 use Rattle.exploration.proofs.Members.{later, end-same, members-same}
@@ -37,7 +40,7 @@ module _ (W : List ℕ) where
       none-passed : (n : ℕ) → 0 + n ≡ n
       none-passed n = omega arith
   standing-split i (suc k) n s =
-      let t : Sound desk (drop i W) × Standing W (memberEnd W i) (k + n) = subst (Standing W i) (one-passed k n) s in
+      let t : SoundRecord desk (drop i W) × Standing W (memberEnd W i) (k + n) = subst (Standing W i) (one-passed k n) s in
       let r = standing-split (memberEnd W i) k n (t .1) in
       ((t .0, r .0), subst (λ (j : ℕ). Standing W j n) (ending-next W i k) (r .1))
     where
@@ -48,16 +51,16 @@ module _ (W : List ℕ) where
   unfolding Standing
   standing-same X i zero e s = tt
   standing-same X i (suc n) e s = (
-    subst (Sound desk) (sym e) (s .0),
+    subst (SoundRecord desk) (sym e) (s .0),
     subst (λ (j : ℕ). Standing X j n) (sym (end-same W X i e))
         (standing-same X (memberEnd W i) n (later W X i e) (s .1)),
   )
 
 -- an array that holds a state
-module _ {W : List ℕ} {len count front : ℕ} {s : State} (h : Held W len count front s)
+module _ {W : List ℕ} {len count front : ℕ} {s : State} (h : HoldsState W len count front s)
     (fits : (M : Question) → M ∈ s .members → Fits desk M)
   where
-    pub state-held : stateOf W (record { len = len; count = count; front = front }) ≡ s
+    pub state-held : stateIn W (record { len = len; count = count; front = front }) ≡ s
     state-held =
         ap₂ (λ (U : List Question) (k : ℕ). record { members = U; explored = k }) (held-members W h fits) (h .explored)
 
@@ -65,7 +68,7 @@ module _ {W : List ℕ} {len count front : ℕ} {s : State} (h : Held W len coun
         → Working W (record { len = len; count = count; front = front })
     held-working short few ahead =
         record {
-          held = subst (Held W len count front) (sym state-held) h;
+          held = subst (HoldsState W len count front) (sym state-held) h;
           few = few;
           ahead = ahead;
           fits = λ M m. fits M (subst (λ (U : List Question). M ∈ U) (held-members W h fits) m);
@@ -98,15 +101,15 @@ module _ {W : List ℕ} {e : Extent} (w : Working W e) where
   parts-are = ap (membersFrom W firstAt) whole ∙ members-split W firstAt (e .front) others
 
   -- the others stand where they stood when the explored ones are through
-  pub others-stand : (P : Question) {X : List ℕ} {a : Moved} → Kept W firstAt firstAt (e .front) P X a
+  pub others-stand : (P : Question) {X : List ℕ} {a : Moved} → Remain W firstAt firstAt (e .front) P X a
       → Standing X (a .from) (e .count - e .front)
   others-stand P {X} {a} k =
       standing-same W X (a .from) others (k .after)
       (subst (λ (i : ℕ). Standing W i others) (sym (k .passed)) (parts-stand .1))
 
   -- the removal: first the explored ones, then the others
-  module _ (P : Question) {X Y : List ℕ} {a b : Moved} (k : Kept W firstAt firstAt (e .front) P X a)
-      (l : Kept X (a .from) (a .to) (e .count - e .front) P Y b)
+  module _ (P : Question) {X Y : List ℕ} {a b : Moved} (k : Remain W firstAt firstAt (e .front) P X a)
+      (l : Remain X (a .from) (a .to) (e .count - e .front) P Y b)
     where
       abbrev U : List Question
       U = membersFrom W firstAt (e .count)
@@ -126,8 +129,8 @@ module _ {W : List ℕ} {e : Extent} (w : Working W e) where
       kept : State
       kept =
           record {
-            members = without covers P explored ++ without covers P unexplored;
-            explored = length (without covers P explored);
+            members = remaining covers P explored ++ remaining covers P unexplored;
+            explored = length (remaining covers P explored);
           }
 
       front-is : take (e .front) U ≡ explored
@@ -135,12 +138,12 @@ module _ {W : List ℕ} {e : Extent} (w : Working W e) where
           ap (take (e .front)) parts-are
           ∙ take-at explored unexplored (e .front) (members-count W firstAt (e .front))
 
-      kept-is : kept ≡ rest (stateOf W e) P
+      kept-is : kept ≡ rest (stateIn W e) P
       unfolding kept
       kept-is =
           ap₂ (λ (A : List Question) (n : ℕ). record { members = A; explored = n })
-          (sym (ap (without covers P) parts-are ∙ keep-append (λ M. not (covers P M)) explored unexplored))
-          (ap (λ (A : List Question). length (without covers P A)) (sym front-is))
+          (sym (ap (remaining covers P) parts-are ∙ keep-append (λ M. not (covers P M)) explored unexplored))
+          (ap (λ (A : List Question). length (remaining covers P A)) (sym front-is))
 
       in-all : (M : Question) → M ∈ kept .members → M ∈ U
       in-all M m =
@@ -150,20 +153,20 @@ module _ {W : List ℕ} {e : Extent} (w : Working W e) where
       unfolding kept
       bytes =
           l .bytes
-          ∙ ap₂ _++_ (k .bytes) (ap (λ (A : List Question). membersBytes (without covers P A)) second)
-          ∙ append-assoc (take firstAt W) (membersBytes (without covers P explored))
-          (membersBytes (without covers P unexplored))
+          ∙ ap₂ _++_ (k .bytes) (ap (λ (A : List Question). membersBytes (remaining covers P A)) second)
+          ∙ append-assoc (take firstAt W) (membersBytes (remaining covers P explored))
+          (membersBytes (remaining covers P unexplored))
           ∙ ap (λ (r : List ℕ). take firstAt W ++ r)
-          (sym (members-append (without covers P explored) (without covers P unexplored)))
+          (sym (members-append (remaining covers P explored) (remaining covers P unexplored)))
 
       lengths : length (membersBytes (kept .members))
-          ≡ length (membersBytes (without covers P explored)) + length (membersBytes (without covers P unexplored))
+          ≡ length (membersBytes (remaining covers P explored)) + length (membersBytes (remaining covers P unexplored))
       unfolding kept
       lengths =
-          ap length (members-append (without covers P explored) (without covers P unexplored))
-          ∙ length-append (membersBytes (without covers P explored)) (membersBytes (without covers P unexplored))
+          ap length (members-append (remaining covers P explored) (remaining covers P unexplored))
+          ∙ length-append (membersBytes (remaining covers P explored)) (membersBytes (remaining covers P unexplored))
 
-      removed : Held Y (b .to) (a .kept + b .kept) (a .kept) kept
+      removed : HoldsState Y (b .to) (a .kept + b .kept) (a .kept) kept
       unfolding kept
       removed =
           record {
@@ -179,7 +182,7 @@ module _ {W : List ℕ} {e : Extent} (w : Working W e) where
                   arith,
                   l .ends,
                   k .ends,
-                  ap (λ (A : List Question). length (membersBytes (without covers P A))) second,
+                  ap (λ (A : List Question). length (membersBytes (remaining covers P A))) second,
                   total-is (kept .members),
                   lengths,
                 );
@@ -188,8 +191,8 @@ module _ {W : List ℕ} {e : Extent} (w : Working W e) where
                   arith,
                   k .count,
                   l .count,
-                  ap (λ (A : List Question). length (without covers P A)) second,
-                  length-append (without covers P explored) (without covers P unexplored),
+                  ap (λ (A : List Question). length (remaining covers P A)) second,
+                  length-append (remaining covers P explored) (remaining covers P unexplored),
                 );
             explored = k .count;
           }
@@ -211,6 +214,6 @@ module _ {W : List ℕ} {e : Extent} (w : Working W e) where
           held-working removed (λ M m. w .fits M (in-all M m)) (λ M m. w .short M (in-all M m)) removed-few
           (omega arith)
 
-      pub removed-state : stateOf Y (record { len = b .to; count = a .kept + b .kept; front = a .kept })
-          ≡ rest (stateOf W e) P
+      pub removed-state : stateIn Y (record { len = b .to; count = a .kept + b .kept; front = a .kept })
+          ≡ rest (stateIn W e) P
       removed-state = state-held removed (λ M m. w .fits M (in-all M m)) ∙ kept-is

@@ -16,8 +16,9 @@ use Rattle.covering.specs.Rule.{Rule}
 use Rattle.unification.specs.Step.{next}
 use Rattle.explore.specs.declared.Taken.{Taken}
 use Rattle.exploration.specs.Run.{apart, allRewritings}
-use Rattle.explore.specs.Taking.{Numbered, orLater, nextAmong, taken}
-use Rattle.exploration.proofs.Taking.{yetToCome, rule-begun, rewriting-found, rule-done}
+use Rattle.explore.specs.Taking.{orLater, nextAmong, taken}
+use Rattle.explore.specs.Taking.{NumberedRewriting}
+use Rattle.exploration.proofs.YetToCome.{yetToCome, rule-begun, rewriting-found, rule-done}
 
 -- from choice n of the first of these rules on
 abbrev pub coming : Question → ℕ → List Rule → List Question
@@ -29,7 +30,7 @@ coming-all M [] = refl
 coming-all M (r ∷ rules) = sym (rule-begun M r rules)
 
 -- `nextAmong` finds the first of them, and where to go on
-pub record Next (M : Question) (k n : ℕ) (rules : List Rule) (e : Numbered) : Type 0 where
+pub record Next (M : Question) (k n : ℕ) (rules : List Rule) (e : NumberedRewriting) : Type 0 where
   pub later : k ≤ e .rule
   pub coming-is : coming M n rules ≡ e .rewriting ∷ coming M (suc (e .choice)) (drop (e .rule - k) rules)
 
@@ -43,7 +44,7 @@ next-none M k n (r ∷ rules) h = go (next apart r M n) refl h (next-none M (suc
     go none e f below = rule-done M r rules n e ∙ sym (coming-all M rules) ∙ below f
     go (some x) e f below = absurd (none≢some (sym f))
 
-pub next-some : (M : Question) (k n : ℕ) (rules : List Rule) (e : Numbered) → nextAmong M k n rules ≡ some e
+pub next-some : (M : Question) (k n : ℕ) (rules : List Rule) (e : NumberedRewriting) → nextAmong M k n rules ≡ some e
     → Next M k n rules e
 unfolding nextAmong
 next-some M k n [] e h = absurd (none≢some h)
@@ -89,14 +90,14 @@ module _ (M : Question) (k n : ℕ) (rules : List Rule) (t : Taken) (e : t ≡ t
   pub given-none : t .found ≡ false → coming M n (drop k rules) ≡ []
   given-none f = go (nextAmong M k n (drop k rules)) refl e
     where
-      go : (o : Option Numbered) → nextAmong M k n (drop k rules) ≡ o → t ≡ taken o → coming M n (drop k rules) ≡ []
+      go : (o : Option NumberedRewriting) → nextAmong M k n (drop k rules) ≡ o → t ≡ taken o → coming M n (drop k rules) ≡ []
       go none x y = next-none M k n (drop k rules) x
       go (some z) x y = absurd (true≢false (sym (ap (λ (u : Taken). u .found) y) ∙ f))
 
   pub given-some : t .found ≡ true → Given M k n rules t
   given-some f = go (nextAmong M k n (drop k rules)) refl e
     where
-      go : (o : Option Numbered) → nextAmong M k n (drop k rules) ≡ o → t ≡ taken o → Given M k n rules t
+      go : (o : Option NumberedRewriting) → nextAmong M k n (drop k rules) ≡ o → t ≡ taken o → Given M k n rules t
       go none x y = absurd (true≢false (sym f ∙ ap (λ (u : Taken). u .found) y))
       go (some z) x y =
           let s = next-some M k n (drop k rules) z x in

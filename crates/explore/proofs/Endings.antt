@@ -5,19 +5,19 @@ use mathlib.Core.List.{List, _++_}
 use Prim.Native.Nat.{ℕ, _≤_}
 use lib.ListN.{length, take, drop}
 use Rattle.covering.specs.Term.{Question}
-use Rattle.reading.specs.Verdict.{Sound}
+use Rattle.reading.specs.Verdict.{SoundBook}
 use Rattle.exploration.specs.Union.{wordBytes, membersFrom, firstAt, outputSize, total, unionBytes}
 use Rattle.exploration.specs.Answer.{outcomeOf, Answers}
 use Rattle.exploration.proofs.Returns.{returns-refused, returns-union}
 use Rattle.explore.specs.declared.Extent.{Extent}
 use Rattle.explore.specs.declared.Ran.the-variants.{Complete, Refused}
-use Rattle.explore.specs.Held.{RanIs}
-use Rattle.exploration.proofs.Written.{headerBytes}
+use Rattle.explore.specs.WorkingArray.{RanIs}
+use Rattle.exploration.proofs.UnionBytes.{headerBytes}
 use Rattle.exploration.proofs.Members.{members-count}
 use Rattle.explore.proofs.Holding.{held-union}
 use Rattle.explore.proofs.Array.{len-most}
 
-module _ (book out : List ℕ) (roomy : outputSize ≤ length out) (sound : Sound book) where
+module _ (book out : List ℕ) (roomy : outputSize ≤ length out) (sound : SoundBook book) where
   pub returns-stopped : (X : List ℕ) (k p : ℕ) → RanIs (outcomeOf book) X (Refused k p) → Answers book out k p out
   returns-stopped X k p x =
       subst (λ (n : ℕ). Answers book out n p out) (sym (x .2)) (returns-refused book out roomy sound (x .1))

@@ -1,4 +1,4 @@
--- What becomes of one rewriting, by what the code finds of it (`specs/Held`, `FateIs`). Assumes nothing.
+-- What becomes of one rewriting, by what the code finds of it (`specs/WorkingArray`, `FateIs`). Assumes nothing.
 use mathlib.Core.Path.{_≡_, refl, sym, _∙_, ap, ap₂, subst}
 use mathlib.Core.Bool.{not}
 use mathlib.Core.Logic.{_⊎_, inl, inr}
@@ -15,14 +15,16 @@ use Rattle.covering.specs.Record.{desk, recordBytes, Fits}
 use Rattle.covering.proofs.Tests.{true→T, false→T}
 use Rattle.explore.specs.declared.Extent.{Extent}
 use Rattle.explore.specs.declared.Fate.the-variants.{Dropped, Appended, Refused}
-use Rattle.exploration.specs.Run.{State, limits, too-long, no-room, covered, without, appended, admitted}
+use Rattle.exploration.specs.Run.{State, limits, too-long, no-room, covered, appended, admitted}
+use Rattle.exploration.specs.Run.{remaining}
 use Rattle.exploration.specs.Steps.{New}
 use Rattle.exploration.specs.Union.{membersBytes, membersFrom, firstAt, outputSize}
-use Rattle.explore.specs.Held.{Held, stateOf, Working, beforeCovering, rest, FateIs}
+use Rattle.explore.specs.WorkingArray.{Working, beforeCovering, rest, FateIs}
+use Rattle.explore.specs.WorkingArray.{HoldsState, stateIn}
 use Rattle.exploration.proofs.Admits.{was-covered, was-long, was-full, was-admitted, admit-is}
 use Rattle.exploration.proofs.Members.{members-count}
 use Rattle.explore.proofs.Array.{state-held, held-working, len-most}
-use Rattle.exploration.proofs.Written.{total-is, total-most, members-last}
+use Rattle.exploration.proofs.UnionBytes.{total-is, total-most, members-last}
 use Rattle.explore.proofs.Holding.{held-appended}
 use Rattle.explore.proofs.Finding.{covering-found}
 
@@ -43,19 +45,19 @@ module _ {W : List ℕ} {e : Extent} (w : Working W e) (P : Question) where
   )
 
   module _ (n : ℕ) (h : n ≡ beforeCovering covers P (membersFrom W firstAt (e .count))) (l : e .count ≤ n) where
-    uncovered : T (not (covered covers P U))
-    uncovered = false→T (covered covers P U) (covered-is n h ∙ le-ltb n (e .count) l)
+    not-covered : T (not (covered covers P U))
+    not-covered = false→T (covered covers P U) (covered-is n h ∙ le-ltb n (e .count) l)
 
     pub fate-long : 8 < length P → FateIs W e P W (Refused 8)
-    fate-long long = (too-long, admit-is covers limits (was-long uncovered long), refl)
+    fate-long long = (too-long, admit-is covers limits (was-long not-covered long), refl)
 
     module _ (short : length P ≤ 8) {X : List ℕ} {f : Extent} (x : Working X f)
-        (kept : stateOf X f ≡ rest (stateOf W e) P)
+        (kept : stateIn X f ≡ rest (stateIn W e) P)
       where
-        new : New covers limits (stateOf W e) P
-        new = record { uncovered = uncovered; short = short }
+        new : New covers limits (stateIn W e) P
+        new = record { uncovered = not-covered; short = short }
 
-        left : f .count ≡ length (without covers P U)
+        left : f .count ≡ length (remaining covers P U)
         left =
             sym (members-count X firstAt (f .count)) ∙ ap (λ (s : State). length (s .members)) kept
 
@@ -100,17 +102,17 @@ module _ {W : List ℕ} {e : Extent} (w : Working W e) (P : Question) where
               next : State
               next = record { members = longer; explored = f .front }
 
-              held : Held Y r (f .count + 1) (f .front) next
+              held : HoldsState Y r (f .count + 1) (f .front) next
               unfolding next
               held =
-                  subst (λ (Z : List ℕ). Held Z r (f .count + 1) (f .front) next) (sym put)
+                  subst (λ (Z : List ℕ). HoldsState Z r (f .count + 1) (f .front) next) (sym put)
                   (subst
-                  (λ (k : ℕ). Held (take (f .len) X ++ (recordBytes desk P ++ drop k X)) k (f .count + 1) (f .front)
+                  (λ (k : ℕ). HoldsState (take (f .len) X ++ (recordBytes desk P ++ drop k X)) k (f .count + 1) (f .front)
                   next)
                   (sym end)
                   (held-appended (x .held) (len-most x) P room-left))
 
-              is-appended : next ≡ appended covers (stateOf W e) P
+              is-appended : next ≡ appended covers (stateIn W e) P
               unfolding next
               is-appended =
                   ap (λ (s : State). record { members = s .members ++ P ∷ []; explored = s .explored }) kept

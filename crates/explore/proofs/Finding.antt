@@ -1,4 +1,4 @@
--- Laws of the search for a covering member (`specs/Held`): one member more, one candidate more. Assumes nothing.
+-- Laws of the search for a covering member (`specs/WorkingArray`): one member more, one candidate more. Assumes nothing.
 use mathlib.Core.Path.{_≡_, refl, sym, _∙_, ap, ap₂}
 use mathlib.Core.Bool.{Bool, true, false, cond, _||_}
 use mathlib.Core.List.{List, [], _∷_}
@@ -12,7 +12,8 @@ use Rattle.covering.specs.Lists.{any}
 use Rattle.covering.specs.Term.{Atom, Question}
 use Rattle.covering.specs.Search.{covers}
 use Rattle.cover.specs.Candidates.{coversOn}
-use Rattle.covering.specs.Record.{desk, atomAt, atomsAt, questionOf, Sound}
+use Rattle.covering.specs.Record.{desk, atomAt, atomsAt, questionOf}
+use Rattle.covering.specs.Record.{SoundRecord}
 use Rattle.cover.proofs.Ahead.{covers-any}
 use Rattle.covering.proofs.Places.{question-at}
 use Rattle.covering.proofs.Places.{atoms-none, atoms-more}
@@ -20,7 +21,7 @@ use Rattle.reading.specs.Word.{byte}
 use Rattle.exploration.specs.Run.{Test, covered}
 use Rattle.exploration.specs.Union.{membersFrom}
 use Rattle.exploration.proofs.Members.{next, members-more, members-none}
-use Rattle.explore.specs.Held.{beforeCovering}
+use Rattle.explore.specs.WorkingArray.{beforeCovering}
 
 -- one candidate more
 module _ (f : Atom → Bool) (B : List ℕ) (k w : ℕ) where
@@ -41,7 +42,7 @@ module _ (f : Atom → Bool) (B : List ℕ) (k w : ℕ) where
   any-miss h e = any-next h ∙ ap (λ (b : Bool). b || any f (atomsAt desk B (1 + (k + 1) * 5) (w - (k + 1)))) e
 
 -- a question with an atom covers where one of the candidates serves
-pub covers-one : (M C : List ℕ) → Sound desk M
+pub covers-one : (M C : List ℕ) → SoundRecord desk M
     → covers (questionOf desk M) (questionOf desk C)
     ≡ any (coversOn (questionOf desk M) (questionOf desk C)) (atomsAt desk C (1 + 0 * 5) (getD C 0 0 - 0))
 covers-one M C s =

@@ -1,4 +1,4 @@
--- Laws of the working array (`specs/Held`): a record put after the last one is one member more, and with its header
+-- Laws of the working array (`specs/WorkingArray`): a record put after the last one is one member more, and with its header
 -- filled it is the union. Assumes nothing.
 use mathlib.Core.Path.{_≡_, refl, sym, _∙_, ap}
 use mathlib.Core.List.{List, [], _∷_, _++_, append-assoc}
@@ -10,10 +10,10 @@ use Rattle.covering.specs.Term.{Question}
 use Rattle.covering.specs.Record.{desk, recordBytes}
 use Rattle.exploration.specs.Run.{State}
 use Rattle.exploration.specs.Union.{membersBytes, firstAt, unionBytes, outputSize}
-use Rattle.explore.specs.Held.{Held}
-use Rattle.exploration.proofs.Written.{total-is, members-last, headerBytes, union-is}
+use Rattle.explore.specs.WorkingArray.{HoldsState}
+use Rattle.exploration.proofs.UnionBytes.{total-is, members-last, headerBytes, union-is}
 
-module _ {W : List ℕ} {len count front : ℕ} {s : State} (h : Held W len count front s) where
+module _ {W : List ℕ} {len count front : ℕ} {s : State} (h : HoldsState W len count front s) where
   -- what stands before the end
   module _ (fits : len ≤ outputSize) where
     low : firstAt ≤ len
@@ -46,7 +46,7 @@ module _ {W : List ℕ} {len count front : ℕ} {s : State} (h : Held W len coun
       longer = take len W ++ (recordBytes desk P ++ drop (len + width) W)
 
       pub held-appended : len + length (recordBytes desk P) ≤ outputSize
-          → Held (take len W ++ (recordBytes desk P ++ drop (len + length (recordBytes desk P)) W))
+          → HoldsState (take len W ++ (recordBytes desk P ++ drop (len + length (recordBytes desk P)) W))
           (len + length (recordBytes desk P)) (count + 1) front
           (record { members = s .members ++ P ∷ []; explored = s .explored })
       held-appended room =

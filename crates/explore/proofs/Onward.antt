@@ -14,7 +14,8 @@ use Rattle.explore.specs.declared.Taken.{Taken}
 use Rattle.explore.specs.declared.Fate.the-variants.{Dropped, Appended, Refused}
 use Rattle.explore.specs.declared.Explored.the-variants.{Passed, Refused as NotExplored}
 use Rattle.exploration.specs.Run.{limits, through, allRewritings}
-use Rattle.explore.specs.Held.{stateOf, Working, FateIs, ExploredIs}
+use Rattle.explore.specs.WorkingArray.{Working, FateIs, ExploredIs}
+use Rattle.explore.specs.WorkingArray.{stateIn}
 use Rattle.exploration.proofs.Admits.{through-none}
 use Rattle.exploration.proofs.Turns.{turn-dropped, turn-refused, turn-appended, turn-stopped}
 use Rattle.explore.proofs.Coming.{coming, coming-all, Given}
@@ -24,8 +25,8 @@ pub record Onward (rules : List Rule) (M : Question) (W : List ℕ) (e : Extent)
   where
     pub working : Working X f
     pub among : (P : Question) → P ∈ coming M n (drop k rules) → P ∈ allRewritings rules M
-    pub outcome : through covers limits M (allRewritings rules M) (stateOf W e)
-        ≡ through covers limits M (coming M n (drop k rules)) (stateOf X f)
+    pub outcome : through covers limits M (allRewritings rules M) (stateIn W e)
+        ≡ through covers limits M (coming M n (drop k rules)) (stateIn X f)
 
 module _ (rules : List Rule) (M : Question) (W : List ℕ) (e : Extent) where
   pub onward-first : Working W e → Onward rules M W e W e 0 0
@@ -33,7 +34,7 @@ module _ (rules : List Rule) (M : Question) (W : List ℕ) (e : Extent) where
       record {
         working = w;
         among = λ P m. subst (λ (l : List Question). P ∈ l) (coming-all M rules) m;
-        outcome = ap (λ (l : List Question). through covers limits M l (stateOf W e)) (sym (coming-all M rules));
+        outcome = ap (λ (l : List Question). through covers limits M l (stateIn W e)) (sym (coming-all M rules));
       }
 
   -- by another name of how far the array is filled
@@ -46,8 +47,8 @@ module _ (rules : List Rule) (M : Question) (W : List ℕ) (e : Extent) where
     pub onward-done : coming M n (drop k rules) ≡ [] → ExploredIs rules M W e X (Passed f)
     onward-done h = (
       o .outcome
-          ∙ ap (λ (l : List Question). through covers limits M l (stateOf X f)) h
-          ∙ through-none covers limits M (stateOf X f),
+          ∙ ap (λ (l : List Question). through covers limits M l (stateIn X f)) h
+          ∙ through-none covers limits M (stateIn X f),
       o .working,
     )
 
@@ -59,9 +60,9 @@ module _ (rules : List Rule) (M : Question) (W : List ℕ) (e : Extent) where
       abbrev Ps : List Question
       Ps = coming M (t .choice + 1) (drop (t .rule) rules)
 
-      outcome-is : through covers limits M (allRewritings rules M) (stateOf W e)
-          ≡ through covers limits M (P ∷ Ps) (stateOf X f)
-      outcome-is = o .outcome ∙ ap (λ (l : List Question). through covers limits M l (stateOf X f)) (g .coming-is)
+      outcome-is : through covers limits M (allRewritings rules M) (stateIn W e)
+          ≡ through covers limits M (P ∷ Ps) (stateIn X f)
+      outcome-is = o .outcome ∙ ap (λ (l : List Question). through covers limits M l (stateIn X f)) (g .coming-is)
 
       pub fewer : length (coming M (t .choice + 1) (drop (t .rule) rules)) < length (coming M n (drop k rules))
       fewer = omega (arith, ap length (g .coming-is))
@@ -81,26 +82,26 @@ module _ (rules : List Rule) (M : Question) (W : List ℕ) (e : Extent) where
           (record {
             working = o .working;
             among = later-in;
-            outcome = outcome-is ∙ turn-dropped covers limits M P Ps (stateOf X f) (h .0);
+            outcome = outcome-is ∙ turn-dropped covers limits M P Ps (stateIn X f) (h .0);
           })
 
       pub onward-refused : (number : ℕ) → FateIs X f (g .rewriting) X (Refused number)
           → ExploredIs rules M W e X (NotExplored number)
       onward-refused number h = (
         h .0,
-        outcome-is ∙ turn-refused covers limits M P Ps (stateOf X f) (h .1),
+        outcome-is ∙ turn-refused covers limits M P Ps (stateIn X f) (h .1),
         h .2,
       )
 
       -- it was appended: the member is removed, or its exploration goes on
       module _ (Y : List ℕ) (d : Extent) (h : FateIs X f (g .rewriting) Y (Appended d)) where
         pub onward-stopped : covers (g .rewriting) M ≡ true → ExploredIs rules M W e Y (Passed d)
-        onward-stopped c = (outcome-is ∙ turn-stopped covers limits M P Ps (stateOf X f) (h .0) c, h .1)
+        onward-stopped c = (outcome-is ∙ turn-stopped covers limits M P Ps (stateIn X f) (h .0) c, h .1)
 
         pub onward-appended : covers (g .rewriting) M ≡ false → Onward rules M W e Y d (t .rule) (t .choice + 1)
         onward-appended c =
             record {
               working = h .1;
               among = later-in;
-              outcome = outcome-is ∙ turn-appended covers limits M P Ps (stateOf X f) (h .0) c;
+              outcome = outcome-is ∙ turn-appended covers limits M P Ps (stateIn X f) (h .0) c;
             }

@@ -5,27 +5,28 @@ use Prim.Native.Nat.{ℕ}
 use native.Mathlib.Omega.{arith}
 use Rattle.covering.specs.Lists.{_∈_}
 use Rattle.covering.specs.Term.{Question}
-use Rattle.covering.specs.Record.{desk, questionOf, Fits, Sound}
+use Rattle.covering.specs.Record.{desk, questionOf, Fits}
+use Rattle.covering.specs.Record.{SoundRecord}
 use Rattle.cover.specs.Buffer.{heldIn}
 use Rattle.covering.proofs.Fitting.{sound-fits}
 use Rattle.cover.proofs.Padded.{held-question, held-sound}
 use Rattle.covering.proofs.RoundTrip.{desk-apart}
 use Rattle.covering.proofs.Wider.{fits-wider}
 use Rattle.reading.specs.Book.{bookOf, layoutOf}
-use Rattle.reading.specs.Verdict.{Sound as SoundBook}
-use Rattle.reading.proofs.Sound.{desk-room}
+use Rattle.reading.specs.Verdict.{SoundBook}
+use Rattle.reading.proofs.SoundBook.{desk-room}
 use Rattle.reading.proofs.Fits.{question-record}
-use Rattle.unify.specs.Held.{inBook, QuestionIn}
+use Rattle.unify.specs.InBytes.{inBook, QuestionIn}
 use Rattle.unify.proofs.FromBook.{held-in, own-wider}
 use Rattle.exploration.specs.Run.{allRewritings}
 use Rattle.exploration.proofs.OfBook.{desk-fits, rewriting-desk}
 
 -- a sound record's question fits
-pub record-fits : (R : List ℕ) → Sound desk R → Fits desk (questionOf desk R)
+pub record-fits : (R : List ℕ) → SoundRecord desk R → Fits desk (questionOf desk R)
 record-fits R s = sound-fits desk desk-apart R (omega arith) s
 
 -- the record of a question that fits
-pub record-sound : (A : Question) → Fits desk A → Sound desk (heldIn desk 56 A)
+pub record-sound : (A : Question) → Fits desk A → SoundRecord desk (heldIn desk 56 A)
 record-sound A f = held-sound desk 56 A desk-apart f (omega (arith, f .most))
 
 pub record-question : (A : Question) → Fits desk A → questionOf desk (heldIn desk 56 A) ≡ A
@@ -40,7 +41,7 @@ module _ (B : List ℕ) (s : SoundBook B) (M : Question) (m : Fits (layoutOf B) 
   pub member-question : questionOf desk (heldIn desk 56 M) ≡ M
   member-question = record-question M (desk-fits B s m)
 
-  pub member-sound : Sound desk (heldIn desk 56 M)
+  pub member-sound : SoundRecord desk (heldIn desk 56 M)
   member-sound = record-sound M (desk-fits B s m)
 
   pub member-in : QuestionIn (heldIn desk 56 M)
@@ -48,7 +49,7 @@ module _ (B : List ℕ) (s : SoundBook B) (M : Question) (m : Fits (layoutOf B) 
 
   -- and that of a rewriting of it to covering
   module _ (P : Question) (x : P ∈ allRewritings (bookOf B .rules) M) where
-    pub rewriting-sound : Sound desk (heldIn desk 56 P)
+    pub rewriting-sound : SoundRecord desk (heldIn desk 56 P)
     rewriting-sound = record-sound P (rewriting-desk B s M m P x)
 
     pub rewriting-question : questionOf desk (heldIn desk 56 P) ≡ P

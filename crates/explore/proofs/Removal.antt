@@ -1,4 +1,4 @@
--- Laws of the removal (`specs/Held`): members passed one after the other, kept or not. Assumes nothing.
+-- Laws of the removal (`specs/WorkingArray`): members passed one after the other, kept or not. Assumes nothing.
 use mathlib.Core.Path.{_≡_, refl, sym, _∙_, ap, subst}
 use mathlib.Core.Bool.{Bool, true, false, cond, not}
 use mathlib.Core.List.{List, _∷_, _++_, append-assoc, append-nil}
@@ -9,12 +9,13 @@ use lib.ListN.{length, getD, take, drop, length-append, length-drop}
 use lib.Seq.{drop-drop, drop-at, take-at, length-take-le}
 use Rattle.covering.specs.Term.{Question}
 use Rattle.covering.specs.Search.{covers}
-use Rattle.covering.specs.Record.{desk, questionOf, recordBytes, Sound}
+use Rattle.covering.specs.Record.{desk, questionOf, recordBytes}
+use Rattle.covering.specs.Record.{SoundRecord}
 use Rattle.reading.specs.Word.{byte}
-use Rattle.exploration.specs.Run.{without}
+use Rattle.exploration.specs.Run.{remaining}
 use Rattle.exploration.specs.Union.{membersBytes, membersFrom}
 use Rattle.exploration.proofs.Members.{next, count-from, member-width, member-bytes, members-more, members-none}
-use Rattle.explore.specs.Held.{Kept}
+use Rattle.explore.specs.WorkingArray.{Remain}
 use Rattle.exploration.specs.Standing.{Standing}
 use Rattle.exploration.proofs.Standing.{Here, stands}
 use Rattle.covering.proofs.Slices.{part-is}
@@ -28,11 +29,11 @@ pub record Midway (W : List ℕ) (from to n : ℕ) (P : Question) (X : List ℕ)
   pub few : kept ≤ i
   pub standing : Standing W at (n - i)
   pub same : drop at X ≡ drop at W
-  pub bytes : take end X ++ membersBytes (without covers P (membersFrom W at (n - i)))
-      ≡ take to W ++ membersBytes (without covers P (membersFrom W from n))
-  pub ends : end + length (membersBytes (without covers P (membersFrom W at (n - i))))
-      ≡ to + length (membersBytes (without covers P (membersFrom W from n)))
-  pub count : kept + length (without covers P (membersFrom W at (n - i))) ≡ length (without covers P (membersFrom W from n))
+  pub bytes : take end X ++ membersBytes (remaining covers P (membersFrom W at (n - i)))
+      ≡ take to W ++ membersBytes (remaining covers P (membersFrom W from n))
+  pub ends : end + length (membersBytes (remaining covers P (membersFrom W at (n - i))))
+      ≡ to + length (membersBytes (remaining covers P (membersFrom W from n)))
+  pub count : kept + length (remaining covers P (membersFrom W at (n - i))) ≡ length (remaining covers P (membersFrom W from n))
   pub place : at + length (membersBytes (membersFrom W at (n - i))) ≡ from + length (membersBytes (membersFrom W from n))
 
 module _ (W : List ℕ) (from to n : ℕ) (P : Question) where
@@ -52,7 +53,7 @@ module _ (W : List ℕ) (from to n : ℕ) (P : Question) where
       }
 
   module _ {X : List ℕ} {at end kept i : ℕ} (m : Midway W from to n P X at end kept i) where
-    pub midway-done : n ≤ i → Kept W from to n P X (record { from = at; to = end; kept = kept })
+    pub midway-done : n ≤ i → Remain W from to n P X (record { from = at; to = end; kept = kept })
     midway-done h =
         let none = members-none W at n i h in
         record {
@@ -60,11 +61,11 @@ module _ (W : List ℕ) (from to n : ℕ) (P : Question) where
           lower = m .lower;
           bytes =
               sym (append-nil (take end X))
-              ∙ ap (λ (U : List Question). take end X ++ membersBytes (without covers P U)) (sym none)
+              ∙ ap (λ (U : List Question). take end X ++ membersBytes (remaining covers P U)) (sym none)
               ∙ m .bytes;
           ends =
-              omega (arith, m .ends, ap (λ (U : List Question). length (membersBytes (without covers P U))) none);
-          count = omega (arith, m .count, ap (λ (U : List Question). length (without covers P U)) none);
+              omega (arith, m .ends, ap (λ (U : List Question). length (membersBytes (remaining covers P U))) none);
+          count = omega (arith, m .count, ap (λ (U : List Question). length (remaining covers P U)) none);
           passed = omega (arith, m .place, ap (λ (U : List Question). length (membersBytes U)) none);
           after = m .same;
         }
@@ -85,11 +86,11 @@ module _ (W : List ℕ) (from to n : ℕ) (P : Question) where
       this = questionOf desk (drop at W)
 
       without-is : (b : Bool) → covers P (questionOf desk (drop at W)) ≡ b
-          → without covers P (membersFrom W at (n - i))
-          ≡ cond (not b) (this ∷ without covers P others) (without covers P others)
+          → remaining covers P (membersFrom W at (n - i))
+          ≡ cond (not b) (this ∷ remaining covers P others) (remaining covers P others)
       without-is b e =
-          ap (without covers P) (members-more W at n i h)
-          ∙ ap (λ (c : Bool). cond (not c) (this ∷ without covers P others) (without covers P others)) e
+          ap (remaining covers P) (members-more W at n i h)
+          ∙ ap (λ (c : Bool). cond (not c) (this ∷ remaining covers P others) (remaining covers P others)) e
 
       place-next : next W at + length (membersBytes others) ≡ from + length (membersBytes (membersFrom W from n))
       place-next =
@@ -155,8 +156,8 @@ module _ (W : List ℕ) (from to n : ℕ) (P : Question) where
                 ∙ ap (drop width) (m .same)
                 ∙ drop-drop width at W;
             bytes =
-                ap (λ (l : List ℕ). l ++ membersBytes (without covers P others)) front
-                ∙ append-assoc (take end X) (recordBytes desk this) (membersBytes (without covers P others))
+                ap (λ (l : List ℕ). l ++ membersBytes (remaining covers P others)) front
+                ∙ append-assoc (take end X) (recordBytes desk this) (membersBytes (remaining covers P others))
                 ∙ ap (λ (U : List Question). take end X ++ membersBytes U) (sym w)
                 ∙ m .bytes;
             ends =
@@ -164,7 +165,7 @@ module _ (W : List ℕ) (from to n : ℕ) (P : Question) where
                   arith,
                   m .ends,
                   ap (λ (U : List Question). length (membersBytes U)) w,
-                  length-append (recordBytes desk this) (membersBytes (without covers P others)),
+                  length-append (recordBytes desk this) (membersBytes (remaining covers P others)),
                   member-width W at,
                 );
             count = omega (arith, m .count, ap length w);
@@ -174,7 +175,7 @@ module _ (W : List ℕ) (from to n : ℕ) (P : Question) where
           width : ℕ
           width = 1 + byte W at * 5
 
-          w : without covers P (membersFrom W at (n - i)) ≡ this ∷ without covers P others
+          w : remaining covers P (membersFrom W at (n - i)) ≡ this ∷ remaining covers P others
           w = without-is false e
 
           inside : end + width ≤ length X
@@ -237,8 +238,8 @@ module _ (W : List ℕ) (from to n : ℕ) (P : Question) where
       pub short : getD X at 0 ≤ 11
       short = omega (arith, same-count, here .most)
 
-      pub sound-part : Sound desk (take (length X - at) (drop at X))
-      sound-part = subst (Sound desk) (sym (part-is X at ∙ m .same)) (here .sound)
+      pub sound-part : SoundRecord desk (take (length X - at) (drop at X))
+      sound-part = subst (SoundRecord desk) (sym (part-is X at ∙ m .same)) (here .sound)
 
   -- the same midway, by other names of what it is about
   pub midway-as : {X Y : List ℕ} {at i end kept k l : ℕ} → Y ≡ X → k ≡ end → l ≡ kept

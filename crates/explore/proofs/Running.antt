@@ -9,13 +9,14 @@ use Rattle.covering.specs.Lists.{_∈_, head}
 use Rattle.covering.specs.Term.{Question}
 use Rattle.covering.specs.Search.{covers}
 use Rattle.covering.specs.Form.{form}
-use Rattle.covering.specs.Record.{desk, questionOf, recordBytes, Fits, Sound}
+use Rattle.covering.specs.Record.{desk, questionOf, recordBytes, Fits}
+use Rattle.covering.specs.Record.{SoundRecord}
 use Rattle.cover.specs.Buffer.{heldIn}
 use Rattle.covering.proofs.Lengths.{question-count, record-long}
 use Rattle.reading.specs.declared.Header.{Header}
 use Rattle.reading.specs.Header.{HeaderRead}
 use Rattle.reading.specs.Book.{bookOf, layoutOf}
-use Rattle.reading.specs.Verdict.{Sound as SoundBook}
+use Rattle.reading.specs.Verdict.{SoundBook}
 use Rattle.reading.proofs.Reading.{book-allowed}
 use Rattle.explore.specs.declared.Extent.{Extent}
 use Rattle.explore.specs.declared.Explored.{Explored}
@@ -26,9 +27,10 @@ use Rattle.exploration.specs.Run.{takenUp, start, through, exploring, allRewrit
 use Rattle.exploration.specs.Steps.{between, within, Reaches, begins, takes-up}
 use Rattle.exploration.specs.Union.{firstAt, outputSize}
 use Rattle.exploration.specs.Answer.{outcomeOf}
-use Rattle.explore.specs.Held.{Held, stateOf, Working, MemberIn, ExploredIs, RanIs}
+use Rattle.explore.specs.WorkingArray.{Working, MemberIn, ExploredIs, RanIs}
+use Rattle.explore.specs.WorkingArray.{HoldsState, stateIn}
 use Rattle.explore.proofs.Records.{record-sound, record-question, member-question}
-use Rattle.exploration.proofs.Written.{total-is}
+use Rattle.exploration.proofs.UnionBytes.{total-is}
 use Rattle.explore.proofs.Holding.{held-appended}
 use Rattle.exploration.proofs.Members.{members-count}
 use Rattle.explore.proofs.Array.{state-held, held-working}
@@ -63,16 +65,16 @@ module _ (B : List ℕ) where
     pub working : Working X f
     pub few : taken ≤ bookOf B .allowed
     pub comes : Reaches covers limits (allRewritings (bookOf B .rules)) (bookOf B .allowed) (bookOf B .question)
-        (between (stateOf X f) taken)
+        (between (stateIn X f) taken)
     pub outcome : outcomeOf B
-        ≡ exploring covers limits (allRewritings (bookOf B .rules)) (bookOf B .allowed - taken) taken (stateOf X f)
+        ≡ exploring covers limits (allRewritings (bookOf B .rules)) (bookOf B .allowed - taken) taken (stateIn X f)
 
   -- "The form of the question is the first member."
   module _ (s : SoundBook B) (W : List ℕ) (size : length W ≡ outputSize) where
     abbrev P : Question
     P = form (bookOf B .question)
 
-    empty : Held W firstAt 0 0 (record { members = []; explored = 0 })
+    empty : HoldsState W firstAt 0 0 (record { members = []; explored = 0 })
     empty =
         record { size = size; bytes = refl; ends = sym (total-is []); members = refl; explored = refl }
 
@@ -88,11 +90,11 @@ module _ (B : List ℕ) where
     module _ (X : List ℕ) (r : ℕ) (end : r ≡ firstAt + length (recordBytes desk (form (bookOf B .question))))
         (put : X ≡ take firstAt W ++ (recordBytes desk (form (bookOf B .question)) ++ drop r W))
       where
-        held : Held X r 1 0 (start (bookOf B .question))
+        held : HoldsState X r 1 0 (start (bookOf B .question))
         held =
-            subst (λ (Z : List ℕ). Held Z r 1 0 (start (bookOf B .question))) (sym put)
+            subst (λ (Z : List ℕ). HoldsState Z r 1 0 (start (bookOf B .question))) (sym put)
             (subst
-            (λ (k : ℕ). Held (take firstAt W ++ (recordBytes desk P ++ drop k W)) k 1 0 (start (bookOf B .question)))
+            (λ (k : ℕ). HoldsState (take firstAt W ++ (recordBytes desk P ++ drop k W)) k 1 0 (start (bookOf B .question)))
             (sym end) (held-appended empty (omega arith) P room))
 
         each : (G : Question → Type 0) → G P → (M : Question) → M ∈ P ∷ [] → G M
@@ -110,7 +112,7 @@ module _ (B : List ℕ) where
                   ∙ ap₂ (λ (n : ℕ) (t : State). exploring covers limits steps n 0 t) all (sym begun);
             }
           where
-            begun : stateOf X (record { len = r; count = 1; front = 0 }) ≡ start (bookOf B .question)
+            begun : stateIn X (record { len = r; count = 1; front = 0 }) ≡ start (bookOf B .question)
             begun = state-held held (each (Fits desk) fits)
 
             all : allowed ≡ allowed - 0
@@ -118,8 +120,8 @@ module _ (B : List ℕ) where
 
     -- as `append` is given it
     module _ (R : List ℕ) (is : R ≡ heldIn desk 56 (form (bookOf B .question))) where
-      pub first-sound : Sound desk R
-      first-sound = subst (Sound desk) (sym is) (record-sound P fits)
+      pub first-sound : SoundRecord desk R
+      first-sound = subst (SoundRecord desk) (sym is) (record-sound P fits)
 
       first-question : questionOf desk R ≡ form (bookOf B .question)
       first-question = ap (questionOf desk) is ∙ record-question P fits
@@ -141,7 +143,7 @@ module _ (B : List ℕ) where
   -- one turn
   module _ {X : List ℕ} {f : Extent} {taken : ℕ} (r : Running X f taken) where
     abbrev s : State
-    s = stateOf X f
+    s = stateIn X f
 
     all-members : length (s .members) ≡ f .count
     all-members = members-count X firstAt (f .count)
@@ -173,7 +175,7 @@ module _ (B : List ℕ) where
       abbrev up : Extent
       up = record { len = f .len; count = f .count; front = f .front + 1 }
 
-      up-is : stateOf X up ≡ takenUp s
+      up-is : stateIn X up ≡ takenUp s
       up-is = ap (λ (n : ℕ). record { members = s .members; explored = n }) one
         where
           one : f .front + 1 ≡ suc (f .front)
@@ -197,9 +199,9 @@ module _ (B : List ℕ) where
             short = w .short;
           }
 
-      module _ (sound : SoundBook B) (M : Question) (old : oldest (stateOf X f) ≡ some M) where
+      module _ (sound : SoundBook B) (M : Question) (old : oldest (stateIn X f) ≡ some M) where
         comes-within : Reaches covers limits steps allowed (bookOf B .question)
-            (within M (steps M) (stateOf X up) (suc taken))
+            (within M (steps M) (stateIn X up) (suc taken))
         comes-within =
             subst (λ (t : State). Reaches covers limits steps allowed (bookOf B .question) (within M (steps M) t (suc taken)))
             (sym up-is) (takes-up (r .comes) old more)
@@ -219,7 +221,7 @@ module _ (B : List ℕ) where
             }
 
         turn : outcomeOf B
-            ≡ onPass (through covers limits M (steps M) (stateOf X up))
+            ≡ onPass (through covers limits M (steps M) (stateIn X up))
             (λ t. exploring covers limits steps (allowed - suc taken) (suc taken) t)
             (λ w. refused w (suc taken))
         turn =
@@ -260,13 +262,13 @@ module _ (B : List ℕ) where
                   working = y .1;
                   few = omega arith;
                   comes =
-                      subst (λ (n : ℕ). Comes (stateOf Y d) n) one-taken
-                      (through-reaches covers limits steps allowed (bookOf B .question) M (steps M) (stateOf X up)
-                      (stateOf Y d) (suc taken) comes-within (y .0));
+                      subst (λ (n : ℕ). Comes (stateIn Y d) n) one-taken
+                      (through-reaches covers limits steps allowed (bookOf B .question) M (steps M) (stateIn X up)
+                      (stateIn Y d) (suc taken) comes-within (y .0));
                   outcome =
                       turn
                       ∙ ap after (y .0)
-                      ∙ ap (λ (n : ℕ). exploring covers limits steps (allowed - n) n (stateOf Y d)) one-taken;
+                      ∙ ap (λ (n : ℕ). exploring covers limits steps (allowed - n) n (stateIn Y d)) one-taken;
                 }
 
             pub outcome-refused : (k : ℕ) → v ≡ Refused k → RanIs (outcomeOf B) Y (NotRun k (taken + 1))

@@ -9,13 +9,13 @@ use Rattle.covering.specs.Term.{Question}
 use Rattle.covering.specs.Record.{desk, Fits}
 use Rattle.exploration.specs.Run.{State}
 use Rattle.exploration.specs.Union.{membersFrom, firstAt}
-use Rattle.explore.specs.Held.{Held}
+use Rattle.explore.specs.WorkingArray.{HoldsState}
 use Rattle.exploration.specs.Standing.{Standing}
-use Rattle.exploration.proofs.Written.{members-read}
+use Rattle.exploration.proofs.UnionBytes.{members-read}
 use Rattle.exploration.proofs.Standing.{members-stand}
 
 module _ (W : List ℕ) where
-  module _ {len count front : ℕ} {s : State} (h : Held W len count front s)
+  module _ {len count front : ℕ} {s : State} (h : HoldsState W len count front s)
       (fits : (M : Question) → M ∈ s .members → Fits desk M) where
     pub held-stands : Standing W firstAt count
     held-stands =

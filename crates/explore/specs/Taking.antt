@@ -13,23 +13,23 @@ use Rattle.explore.specs.declared.Taken.{Taken}
 use Rattle.exploration.specs.Run.{apart}
 
 -- a rewriting with the numbers of its rule and of its choice
-pub record Numbered : Type 0 where
+pub record NumberedRewriting : Type 0 where
   pub rule : ℕ
   pub choice : ℕ
   pub rewriting : Question
 
 -- what was found for the k-th rule, else what is found later
-abbrev pub orLater : ℕ → Option (ℕ × Question) → Option Numbered → Option Numbered
+abbrev pub orLater : ℕ → Option (ℕ × Question) → Option NumberedRewriting → Option NumberedRewriting
 orLater k none later = later
 orLater k (some e) later = some (record { rule = k; choice = e .0; rewriting = e .1 })
 
 -- the first rewriting of M by these rules, the k-th one and those after it, from choice n of the k-th on
-unfoldable pub nextAmong : Question → ℕ → ℕ → List Rule → Option Numbered
+unfoldable pub nextAmong : Question → ℕ → ℕ → List Rule → Option NumberedRewriting
 nextAmong M k n [] = none
 nextAmong M k n (r ∷ rules) = orLater k (next apart r M n) (nextAmong M (suc k) 0 rules)
 
 -- how the code holds it
-abbrev pub taken : Option Numbered → Taken
+abbrev pub taken : Option NumberedRewriting → Taken
 taken none = record { found = false; rule = 0; choice = 0; rewriting = replicate 56 255 }
 taken (some e) =
     record { found = true; rule = e .rule; choice = e .choice; rewriting = heldIn desk 56 (e .rewriting) }

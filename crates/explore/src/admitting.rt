@@ -1,6 +1,7 @@
 // Admitting one rewriting.
-ghost use Rattle.covering.specs.Record.{desk, questionOf, Sound};
-ghost use Rattle.explore.specs.Held.{Working, FateIs};
+ghost use Rattle.covering.specs.Record.{desk, questionOf};
+ghost use Rattle.covering.specs.Record.{SoundRecord};
+ghost use Rattle.explore.specs.WorkingArray.{Working, FateIs};
 use super::Extent;
 use super::Fate;
 use super::removing::remove_covered;
@@ -14,7 +15,7 @@ const ROOM: usize = 64;
 
 // Drops the rewriting if a member covers it; else refuses with 8, removes what it covers, refuses with 9, or appends it.
 pub fn admit(work: &mut [u8], filled: Extent, rewriting: &[u8]) -> Fate
-    requires { ⌜ Working (now work) filled × Sound desk (now rewriting) ⌝ }
+    requires { ⌜ Working (now work) filled × SoundRecord desk (now rewriting) ⌝ }
     ensures { λ r. ⌜ FateIs
         (now (work .entry))
         filled

@@ -2,16 +2,17 @@
 ghost use mathlib.Core.Path.{_≡_};
 ghost use Prim.Native.Nat.{_≤_};
 ghost use Rattle.covering.specs.Search.{covers};
-ghost use Rattle.covering.specs.Record.{desk, questionOf, Sound};
+ghost use Rattle.covering.specs.Record.{desk, questionOf};
+ghost use Rattle.covering.specs.Record.{SoundRecord};
 ghost use Rattle.exploration.specs.Union.{membersFrom, firstAt};
-ghost use Rattle.explore.specs.Held.{beforeCovering};
+ghost use Rattle.explore.specs.WorkingArray.{beforeCovering};
 ghost use Rattle.exploration.specs.Standing.{Standing};
 use super::FIRST;
 
 // The number of the first of the count members that covers the rewriting, count where none does. One candidate for the
 // member's first atom is asked at a time, so that the search ends at the first that serves.
 pub fn member_covering(work: &[u8], count: usize, rewriting: &[u8]) -> usize
-    requires { ⌜ (count ≤ 64) × Standing (now work) firstAt count × Sound desk (now rewriting) ⌝ }
+    requires { ⌜ (count ≤ 64) × Standing (now work) firstAt count × SoundRecord desk (now rewriting) ⌝ }
     ensures { λ r. ⌜ r
         ≡ beforeCovering covers
         (questionOf desk (now (rewriting .entry)))

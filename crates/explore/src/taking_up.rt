@@ -2,15 +2,16 @@
 ghost use mathlib.Core.Path.{_≡_};
 ghost use Prim.Native.Nat.{_<_};
 ghost use lib.ListN.{drop};
-ghost use Rattle.covering.specs.Record.{desk, questionOf, Sound};
+ghost use Rattle.covering.specs.Record.{desk, questionOf};
+ghost use Rattle.covering.specs.Record.{SoundRecord};
 ghost use Rattle.cover.specs.Buffer.{heldIn};
 ghost use Rattle.reading.specs.Book.{bookOf};
 ghost use Rattle.reading.specs.Header.{rules as rulesOf};
-ghost use Rattle.reading.specs.Verdict.{Sound as SoundBook};
+ghost use Rattle.reading.specs.Verdict.{SoundBook};
 ghost use Rattle.book.specs.Parts.{StartsAt};
 ghost use Rattle.unification.specs.Choice.{mostChoices};
-ghost use Rattle.unify.specs.Held.{QuestionIn};
-ghost use Rattle.explore.specs.Held.{Working, OldestIs};
+ghost use Rattle.unify.specs.InBytes.{QuestionIn};
+ghost use Rattle.explore.specs.WorkingArray.{Working, OldestIs};
 ghost use Rattle.explore.specs.Taking.{nextAmong, taken};
 use super::Extent;
 use super::FIRST;
@@ -18,7 +19,7 @@ use super::Taken;
 
 // The record at the front of 56 bytes, the rest 255.
 fn copy_record(member: &[u8]) -> [u8; 56]
-    requires { ⌜ Sound desk (now member) ⌝ }
+    requires { ⌜ SoundRecord desk (now member) ⌝ }
     ensures { λ r. ⌜ r ≡ heldIn desk 56 (questionOf desk (now (member .entry))) ⌝ }
 {
     let width = 1 + (member[0] as usize) * 5;

@@ -4,7 +4,8 @@ ghost use mathlib.Core.Path.{_≡_};
 ghost use mathlib.Core.List.{_++_};
 ghost use Prim.Native.Nat.{_+_, _*_, _≤_, _<_};
 ghost use lib.ListN.{length, getD, take, drop};
-ghost use Rattle.covering.specs.Record.{desk, questionOf, recordBytes, Sound};
+ghost use Rattle.covering.specs.Record.{desk, questionOf, recordBytes};
+ghost use Rattle.covering.specs.Record.{SoundRecord};
 ghost use Rattle.exploration.specs.Union.{wordBytes, firstAt};
 use super::FIRST;
 
@@ -22,7 +23,7 @@ pub fn copy_out(work: &[u8], len: usize, out: &mut [u8])
 
 // Puts the record at len, and answers where it ends.
 pub fn append(work: &mut [u8], len: usize, member: &[u8]) -> usize
-    requires { ⌜ Sound desk (now member) × (len + (1 + getD (now member) 0 0 * 5) ≤ length (now work)) ⌝ }
+    requires { ⌜ SoundRecord desk (now member) × (len + (1 + getD (now member) 0 0 * 5) ≤ length (now work)) ⌝ }
     ensures { λ r. ⌜ (r ≡ len + length (recordBytes desk (questionOf desk (now (member .entry)))))
         × (now (work .exit)
         ≡ take len (now (work .entry))

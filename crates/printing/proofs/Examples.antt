@@ -11,7 +11,8 @@ use Rattle.reading.specs.Verdict.{wrongInAtoms, wrongInRules, wrongByte, conten
 use Rattle.unification.specs.Step.{step, listed, rewritings}
 use Rattle.exploration.specs.Run.{admit, through, exploring, runBy, run}
 use Rattle.exploration.specs.Answer.{result}
-use Rattle.printing.specs.Printed.{digits, decimal, termText, atomText, memberLine, line}
+use Rattle.printing.specs.Printed.{decimal, termText, atomText, memberLine, line}
+use Rattle.printing.specs.Printed.{figures}
 use Rattle.printing.specs.Answer.{linesOf}
 use Rattle.printing.specs.Examples.{shown, examples}
 
@@ -19,5 +20,5 @@ pub examples-hold : map shown examples ≡ examples
 unfolding examples covers firstMap findMap form step listed rewritings admit through exploring runBy run
     termOf argsAt atomAt atomsAt atomBytes recordBytes word ruleAt rulesFrom after bookOf
     inTable offsetsRight wrongPlaces ruleRight wrongRule wrongPlace wrongInAtom wrongInAtoms wrongInRules wrongByte
-    contents verdict result linesOf digits decimal termText atomText memberLine line
+    contents verdict result linesOf figures decimal termText atomText memberLine line
 examples-hold = refl

@@ -7,7 +7,7 @@ use Rattle.covering.specs.Lists.{gather}
 use Rattle.covering.specs.Term.{Question}
 use Rattle.reading.specs.Word.{word}
 use Rattle.exploration.specs.Union.{membersFrom}
-use Rattle.exploration.proofs.Written.{members-of}
+use Rattle.exploration.proofs.UnionBytes.{members-of}
 use Rattle.exploration.proofs.Members.{members-count}
 use Rattle.exploration.specs.Standing.{Standing}
 use Rattle.printing.specs.Printed.{ascii, memberLine, line, printed}

@@ -11,7 +11,8 @@ use lib.ListN.{length, getD, take, drop, length-append, length-drop}
 use lib.Seq.{getD-drop}
 use Rattle.covering.specs.Lists.{gather}
 use Rattle.covering.specs.Term.{Term, var, con, Question}
-use Rattle.covering.specs.Record.{desk, termOf, argsAt, atomAt, atomsAt, questionOf, isTerm, usedFirst, isAtom, Sound}
+use Rattle.covering.specs.Record.{desk, termOf, argsAt, atomAt, atomsAt, questionOf, isTerm, usedFirst, isAtom}
+use Rattle.covering.specs.Record.{SoundRecord}
 use Rattle.covering.proofs.Tests.{fst-of, snd-of}
 use Rattle.covering.proofs.Bytes.{term-var, term-con}
 use Rattle.covering.proofs.Places.{args-none, args-step, relation-at, args-at, question-at}
@@ -176,7 +177,7 @@ module _ (B : List ℕ) (i n : ℕ) where
       ∙ omega arith
 
 -- a member
-module _ (B : List ℕ) (s : Sound desk B) where
+module _ (B : List ℕ) (s : SoundRecord desk B) where
   member-is : memberLine (questionOf desk B) ≡ joined (ascii " ") atomText (atomsAt desk B 1 (getD B 0 0)) ++ ascii "\n"
   unfolding memberLine
   member-is = ap memberLine (question-at desk B refl)
@@ -226,12 +227,12 @@ module _ (W : List ℕ) (i n : ℕ) where
       (gather memberLine (membersFrom W (memberEnd W i) (n - 1)))
 
   module _ (h : 0 < n) (s : Standing W i n) where
-    both : Sound desk (drop i W) × Standing W (memberEnd W i) (n - 1)
+    both : SoundRecord desk (drop i W) × Standing W (memberEnd W i) (n - 1)
     unfolding Standing
     both = subst (Standing W i) (less-one n h) s
 
-    pub stands-first : Sound desk (part W i)
-    stands-first = subst (Sound desk) (sym (part-is W i)) (both .0)
+    pub stands-first : SoundRecord desk (part W i)
+    stands-first = subst (SoundRecord desk) (sym (part-is W i)) (both .0)
 
     pub stands-rest : Standing W (memberEnd W i) (n - 1)
     stands-rest = both .1

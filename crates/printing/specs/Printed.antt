@@ -16,17 +16,17 @@ ascii empty = []
 ascii (c then s) = code c ∷ ascii s
 
 -- a digit's byte
-abbrev pub digit : ℕ → ℕ
-digit n = 48 + n
+abbrev pub figure : ℕ → ℕ
+figure n = 48 + n
 
--- the decimal digits of a number, with no zero in front; the first argument bounds how many there are
-unfoldable pub digits : ℕ → ℕ → List ℕ
-digits zero n = digit n ∷ []
-digits (suc most) n = let more = digits most (n / 10) ++ digit (n % 10) ∷ [] in cond (ltb n 10) (digit n ∷ []) more
+-- the decimal figures of a number, with no zero in front; the first argument bounds how many there are
+unfoldable pub figures : ℕ → ℕ → List ℕ
+figures zero n = figure n ∷ []
+figures (suc most) n = let more = figures most (n / 10) ++ figure (n % 10) ∷ [] in cond (ltb n 10) (figure n ∷ []) more
 
 -- (`proofs/Decimal`: their value is the number, and a number that is not 0 begins with 1 to 9)
 unfoldable pub decimal : ℕ → List ℕ
-decimal n = digits n n
+decimal n = figures n n
 
 -- "v variable, c constant"
 unfoldable pub termText : Term → List ℕ

@@ -3,11 +3,12 @@ ghost use Prim.Native.Nat.{_+_, _*_, _≤_};
 ghost use lib.Dec.{T};
 ghost use lib.ListN.{length};
 ghost use Rattle.covering.specs.Lists.{gather};
-ghost use Rattle.covering.specs.Record.{desk, argsAt, atomAt, atomsAt, questionOf, isAtom, areAtoms, Sound};
+ghost use Rattle.covering.specs.Record.{desk, argsAt, atomAt, atomsAt, questionOf, isAtom, areAtoms};
+ghost use Rattle.covering.specs.Record.{SoundRecord};
 ghost use Rattle.exploration.specs.Union.{membersFrom};
 ghost use Rattle.exploration.specs.Standing.{Standing};
 ghost use Rattle.printing.specs.Printed.{ascii, marked, termText, atomText, memberLine, line};
-ghost use Rattle.printing.specs.Put.{Puts};
+ghost use Rattle.printing.specs.Put.{Pastes};
 use super::put::put;
 use super::put::put_decimal;
 use super::put::put_term;
@@ -22,7 +23,7 @@ pub fn put_line(
     n: usize,
 ) -> usize
     requires { ⌜ at + length (line (now first) m (now second) n) ≤ length (now text) ⌝ }
-    ensures { λ r. ⌜ Puts
+    ensures { λ r. ⌜ Pastes
         (line (now (first .entry)) m (now (second .entry)) n)
         (now (text .entry))
         at
@@ -40,7 +41,7 @@ pub fn put_line(
 fn put_terms(text: &mut [u8], at: usize, member: &[u8], i: usize, w: usize) -> usize
     requires { ⌜ (i + w ≤ length (now member))
         × (at + length (marked (ascii ",") termText (argsAt (now member) i w)) ≤ length (now text)) ⌝ }
-    ensures { λ r. ⌜ Puts
+    ensures { λ r. ⌜ Pastes
         (marked (ascii ",") termText (argsAt (now (member .entry)) i w))
         (now (text .entry))
         at
@@ -64,7 +65,7 @@ fn put_atom(text: &mut [u8], at: usize, member: &[u8], i: usize) -> usize
     requires { ⌜ (i + 5 ≤ length (now member))
         × T (isAtom desk (now member) i)
         × (at + length (atomText (atomAt desk (now member) i)) ≤ length (now text)) ⌝ }
-    ensures { λ r. ⌜ Puts
+    ensures { λ r. ⌜ Pastes
         (atomText (atomAt desk (now (member .entry)) i))
         (now (text .entry))
         at
@@ -84,7 +85,7 @@ fn put_atoms(text: &mut [u8], at: usize, member: &[u8], i: usize, n: usize) -> u
     requires { ⌜ (i + n * 5 ≤ length (now member))
         × T (areAtoms desk (now member) i n)
         × (at + length (marked (ascii " ") atomText (atomsAt desk (now member) i n)) ≤ length (now text)) ⌝ }
-    ensures { λ r. ⌜ Puts
+    ensures { λ r. ⌜ Pastes
         (marked (ascii " ") atomText (atomsAt desk (now (member .entry)) i n))
         (now (text .entry))
         at
@@ -101,9 +102,9 @@ fn put_atoms(text: &mut [u8], at: usize, member: &[u8], i: usize, n: usize) -> u
 
 // Puts a member's line.
 fn put_member(text: &mut [u8], at: usize, member: &[u8]) -> usize
-    requires { ⌜ Sound desk (now member)
+    requires { ⌜ SoundRecord desk (now member)
         × (at + length (memberLine (questionOf desk (now member))) ≤ length (now text)) ⌝ }
-    ensures { λ r. ⌜ Puts
+    ensures { λ r. ⌜ Pastes
         (memberLine (questionOf desk (now (member .entry))))
         (now (text .entry))
         at
@@ -120,7 +121,7 @@ fn put_member(text: &mut [u8], at: usize, member: &[u8]) -> usize
 pub fn put_members(text: &mut [u8], at: usize, output: &[u8], i: usize, n: usize) -> usize
     requires { ⌜ Standing (now output) i n
         × (at + length (gather memberLine (membersFrom (now output) i n)) ≤ length (now text)) ⌝ }
-    ensures { λ r. ⌜ Puts
+    ensures { λ r. ⌜ Pastes
         (gather memberLine (membersFrom (now (output .entry)) i n))
         (now (text .entry))
         at

@@ -12,7 +12,8 @@ use lib.ListN.{length}
 use Rattle.covering.proofs.Tests.{decide, clash, both, fst-of, snd-of, none≢some, le-or-lt}
 use Rattle.reading.specs.Word.{byte}
 use Rattle.reading.specs.Header.{headerSize, relations, constants, rules, atoms, allowed, relationsAt, rulesAt}
-use Rattle.reading.specs.Header.{questionAt, total, headerOf, Range, Outside, inside, relationsRange}
+use Rattle.reading.specs.Header.{questionAt, headerOf, Range, Outside, inside, relationsRange}
+use Rattle.reading.specs.Header.{totalWord}
 use Rattle.reading.specs.Header.{constantsRange, rulesRange, atomsRange, allowedRange, placesRange, bodyRange}
 use Rattle.reading.specs.Header.{headRange, atomSize}
 use Rattle.reading.specs.Book.{bodyCount, headCount, bodyAt, ruleEnd, after, rulesStart, ruleStart}
@@ -116,8 +117,8 @@ module _ (B : List ℕ) where
     pub relations-at : relationsAt B ≡ headerSize
     pub rules-at : rulesAt B ≡ headerSize + relations B
     pub question-at : rulesAt B ≤ questionAt B
-    pub total-is : total B ≡ questionAt B + atomSize * atoms B
-    pub length-is : total B ≡ length B
+    pub total-is : totalWord B ≡ questionAt B + atomSize * atoms B
+    pub length-is : totalWord B ≡ length B
 
   pub offsets-right : T (offsetsRight (headerOf B) (length B)) → OffsetsRight
   unfolding offsetsRight
@@ -129,8 +130,8 @@ module _ (B : List ℕ) where
         relations-at = eqb→eq _ _ (fst-of (eqb (relationsAt B) headerSize) _ t);
         rules-at = eqb→eq _ _ (fst-of (eqb (rulesAt B) (headerSize + relations B)) _ t₂);
         question-at = leb→le _ _ (fst-of (leb (rulesAt B) (questionAt B)) _ t₃);
-        total-is = eqb→eq _ _ (fst-of (eqb (total B) (questionAt B + atomSize * atoms B)) _ t₄);
-        length-is = eqb→eq _ _ (snd-of (eqb (total B) (questionAt B + atomSize * atoms B)) _ t₄);
+        total-is = eqb→eq _ _ (fst-of (eqb (totalWord B) (questionAt B + atomSize * atoms B)) _ t₄);
+        length-is = eqb→eq _ _ (snd-of (eqb (totalWord B) (questionAt B + atomSize * atoms B)) _ t₄);
       }
 
   offsets-not : T (offsetsRight (headerOf B) (length B)) → OffsetWrong B → ⊥
@@ -146,7 +147,7 @@ module _ (B : List ℕ) where
       either (eqb (relationsAt B) headerSize) _ (λ f. relations-not (eq-not f))
       (either (eqb (rulesAt B) (headerSize + relations B)) _ (λ f. rules-not (eq-not f))
       (either (leb (rulesAt B) (questionAt B)) _ (λ f. question-below (le-not f))
-      (either (eqb (total B) (questionAt B + atomSize * atoms B)) _ (λ f. total-not (eq-not f))
+      (either (eqb (totalWord B) (questionAt B + atomSize * atoms B)) _ (λ f. total-not (eq-not f))
       (λ f. length-not (eq-not f)))))
 
   pub offsets-earliest : Earliest (λ p. (p ≡ 0) × OffsetWrong B) (unless (offsetsRight (headerOf B) (length B)) 0)

@@ -11,7 +11,8 @@ use lib.ListN.{length}
 use Rattle.reading.specs.declared.Refusal.{Refusal}
 use Rattle.reading.specs.Header.{headerSize, relations, rules, questionAt, headerOf}
 use Rattle.reading.specs.Book.{rulesStart, ruleStart}
-use Rattle.reading.specs.Refusals.{Short, OutsideTable, OffsetWrong, PlacesWrong, RuleWrong, ByteWrong, Applies}
+use Rattle.reading.specs.Refusals.{Short, OutsideTable, OffsetWrong, PlacesWrong, RuleWrong, ByteWrong}
+use Rattle.reading.specs.Refusals.{ApplicableToBook}
 use Rattle.reading.specs.Refusals.{two, three, four, five, six, seven}
 use Rattle.reading.specs.Verdict.{accepted, NoLater, IsVerdict, sound, refused, unless, inTable, offsetsRight}
 use Rattle.reading.specs.Verdict.{wrongPlaces, wrongRule, wrongByte, refuse, contents, verdict}
@@ -22,16 +23,16 @@ use Rattle.reading.proofs.Conditions.{rule-earliest, byte-earliest, off
 module _ (B : List ℕ) where
   -- the verdict among the numbers from n on
   data From (n : ℕ) (r : Refusal) : Type 0 where
-    all-sound : r ≡ accepted → ((m p : ℕ) → n ≤ m → Applies B m p → ⊥) → From n r
-    one-refused : Applies B (r .number) (r .place) → ((m q : ℕ) → n ≤ m → Applies B m q → NoLater r m q) → From n r
+    all-sound : r ≡ accepted → ((m p : ℕ) → n ≤ m → ApplicableToBook B m p → ⊥) → From n r
+    one-refused : ApplicableToBook B (r .number) (r .place) → ((m q : ℕ) → n ≤ m → ApplicableToBook B m q → NoLater r m q) → From n r
 
   -- one number more, before the others
-  step : (n : ℕ) {o : Option ℕ} (r : Refusal) → Earliest (Applies B n) o → (o ≡ none → From (n + 1) r)
+  step : (n : ℕ) {o : Option ℕ} (r : Refusal) → Earliest (ApplicableToBook B n) o → (o ≡ none → From (n + 1) r)
       → From n (refuse n o r)
   step n r (nowhere f) next = go (next refl)
     where
-      not-here : (m p : ℕ) → (m ≡ n) → Applies B m p → ⊥
-      not-here m p e a = f p (subst (λ (k : ℕ). Applies B k p) e a)
+      not-here : (m p : ℕ) → (m ≡ n) → ApplicableToBook B m p → ⊥
+      not-here m p e a = f p (subst (λ (k : ℕ). ApplicableToBook B k p) e a)
 
       go : From (n + 1) r → From n r
       go (all-sound e g) =
@@ -42,30 +43,30 @@ module _ (B : List ℕ) where
           (λ m q l a. ⊎-elim (λ h. absurd (not-here m q h a)) (λ h. g m q h a) (here-or-later n m l))
   step n r (first {p} a f) next = one-refused a (λ m q l b. go m q b (here-or-later n m l))
     where
-      go : (m q : ℕ) → Applies B m q → (m ≡ n) ⊎ (n + 1 ≤ m) → (n < m) ⊎ ((n ≡ m) × (p ≤ q))
-      go m q b (inl e) = inr (sym e, f q (subst (λ (k : ℕ). Applies B k q) e b))
+      go : (m q : ℕ) → ApplicableToBook B m q → (m ≡ n) ⊎ (n + 1 ≤ m) → (n < m) ⊎ ((n ≡ m) × (p ≤ q))
+      go m q b (inl e) = inr (sym e, f q (subst (λ (k : ℕ). ApplicableToBook B k q) e b))
       go m q b (inr l) = inl (omega arith)
 
   -- what an application of each number says
-  says-two : {p : ℕ} → Applies B 2 p → (p ≡ 0) × Short B
+  says-two : {p : ℕ} → ApplicableToBook B 2 p → (p ≡ 0) × Short B
   says-two (two s) = (refl, s)
 
-  says-three : {p : ℕ} → Applies B 3 p → (p ≡ 0) × OutsideTable B
+  says-three : {p : ℕ} → ApplicableToBook B 3 p → (p ≡ 0) × OutsideTable B
   says-three (three s) = (refl, s)
 
-  says-four : {p : ℕ} → Applies B 4 p → (p ≡ 0) × OffsetWrong B
+  says-four : {p : ℕ} → ApplicableToBook B 4 p → (p ≡ 0) × OffsetWrong B
   says-four (four s) = (refl, s)
 
-  says-five : {p : ℕ} → Applies B 5 p → PlacesWrong B p
+  says-five : {p : ℕ} → ApplicableToBook B 5 p → PlacesWrong B p
   says-five (five s) = s
 
-  says-six : {p : ℕ} → Applies B 6 p → RuleWrong B p
+  says-six : {p : ℕ} → ApplicableToBook B 6 p → RuleWrong B p
   says-six (six s) = s
 
-  says-seven : {p : ℕ} → Applies B 7 p → ByteWrong B p
+  says-seven : {p : ℕ} → ApplicableToBook B 7 p → ByteWrong B p
   says-seven (seven s) = s
 
-  pub number-from : {n p : ℕ} → Applies B n p → 2 ≤ n
+  pub number-from : {n p : ℕ} → ApplicableToBook B n p → 2 ≤ n
   number-from (two s) = omega arith
   number-from (three s) = omega arith
   number-from (four s) = omega arith
@@ -73,7 +74,7 @@ module _ (B : List ℕ) where
   number-from (six s) = omega arith
   number-from (seven s) = omega arith
 
-  number-to : {n p : ℕ} → Applies B n p → n < 8
+  number-to : {n p : ℕ} → ApplicableToBook B n p → n < 8
   number-to (two s) = omega arith
   number-to (three s) = omega arith
   number-to (four s) = omega arith
@@ -81,25 +82,25 @@ module _ (B : List ℕ) where
   number-to (six s) = omega arith
   number-to (seven s) = omega arith
 
-  at-start : {W : Type 0} (n : ℕ) → (W → Applies B n 0) → (p : ℕ) → (p ≡ 0) × W → Applies B n p
-  at-start n f p w = subst (λ (q : ℕ). Applies B n q) (sym (w .0)) (f (w .1))
+  at-start : {W : Type 0} (n : ℕ) → (W → ApplicableToBook B n 0) → (p : ℕ) → (p ≡ 0) × W → ApplicableToBook B n p
+  at-start n f p w = subst (λ (q : ℕ). ApplicableToBook B n q) (sym (w .0)) (f (w .1))
 
-  two-earliest : Earliest (Applies B 2) (unless (leb headerSize (length B)) 0)
+  two-earliest : Earliest (ApplicableToBook B 2) (unless (leb headerSize (length B)) 0)
   two-earliest = earliest-same (at-start 2 two) (λ p a. says-two a) (short-earliest B)
 
-  three-earliest : Earliest (Applies B 3) (unless (inTable (headerOf B)) 0)
+  three-earliest : Earliest (ApplicableToBook B 3) (unless (inTable (headerOf B)) 0)
   three-earliest = earliest-same (at-start 3 three) (λ p a. says-three a) (table-earliest B)
 
-  four-earliest : Earliest (Applies B 4) (unless (offsetsRight (headerOf B) (length B)) 0)
+  four-earliest : Earliest (ApplicableToBook B 4) (unless (offsetsRight (headerOf B) (length B)) 0)
   four-earliest = earliest-same (at-start 4 four) (λ p a. says-four a) (offsets-earliest B)
 
-  five-earliest : Earliest (Applies B 5) (wrongPlaces B headerSize (relations B))
+  five-earliest : Earliest (ApplicableToBook B 5) (wrongPlaces B headerSize (relations B))
   five-earliest = earliest-same (λ p. five) (λ p a. says-five a) (relation-earliest B)
 
-  six-earliest : Earliest (Applies B 6) (wrongRule B (questionAt B) (rulesStart B) (rules B))
+  six-earliest : Earliest (ApplicableToBook B 6) (wrongRule B (questionAt B) (rulesStart B) (rules B))
   six-earliest = earliest-same (λ p. six) (λ p a. says-six a) (rule-earliest B)
 
-  seven-earliest : ruleStart B (rules B) ≤ questionAt B → Earliest (Applies B 7) (wrongByte B)
+  seven-earliest : ruleStart B (rules B) ≤ questionAt B → Earliest (ApplicableToBook B 7) (wrongByte B)
   seven-earliest h = earliest-same (λ p. seven) (λ p a. says-seven a) (byte-earliest B h)
 
   -- where 4 and 6 do not apply, the rules end where the question starts

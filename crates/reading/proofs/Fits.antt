@@ -21,9 +21,10 @@ use Rattle.reading.specs.Word.{byte}
 use Rattle.reading.specs.Header.{constants, rules, atoms, questionAt, constantsRange, atomSize, variables}
 use Rattle.reading.specs.Book.{bodyCount, ruleAt, ruleStart, rulesStart, placesOf, bookOf}
 use Rattle.reading.specs.Refusals.{usedAllowed}
-use Rattle.reading.specs.Verdict.{Sound}
-use Rattle.reading.proofs.Sound.{Room, AtomRight, used-place, unused-place, right-places}
-use Rattle.reading.proofs.Sound.{sound-rule, sound-question, sound-header}
+use Rattle.reading.specs.Verdict.{SoundBook}
+use Rattle.reading.proofs.SoundBook.{AtomRight, used-place, unused-place, right-places}
+use Rattle.reading.proofs.SoundBook.{BookRoom}
+use Rattle.reading.proofs.SoundBook.{sound-rule, sound-question, sound-header}
 use Rattle.reading.proofs.Reading.{book-rules, book-question, book-allowed, rule-body, rule-head, rule-from}
 
 -- where a rule of the book starts
@@ -31,7 +32,7 @@ rule-at : (B : List ℕ) (r : Rule) → r ∈ bookOf B .rules → (k : ℕ) × (
 rule-at B r m = rule-from B (rulesStart B) (rules B) (subst (λ (l : List Rule). r ∈ l) (book-rules B) m)
 
 -- how many there are
-module _ (B : List ℕ) (s : Sound B) where
+module _ (B : List ℕ) (s : SoundBook B) where
   body-count : (k : ℕ) → length (ruleAt B (ruleStart B k) .body) ≡ bodyCount B (ruleStart B k)
   body-count k = ap length (rule-body B (ruleStart B k)) ∙ count-atoms desk B _ _
 
@@ -59,7 +60,7 @@ module _ (B : List ℕ) (s : Sound B) where
   pub allowed-few : bookOf B .allowed ≤ 1000
   allowed-few = omega (arith, book-allowed B, sound-header B s .few-allowed)
 
-module _ (B : List ℕ) (L : Layout) (room : Room B L) where
+module _ (B : List ℕ) (L : Layout) (room : BookRoom B L) where
   -- the term in a used place
   used-fits : (b : ℕ) → T (usedAllowed (constants B) b) → TermFits L (termOf b)
   used-fits b t = go (or-cases (ltb b variables) (leb 128 b && ltb b (128 + constants B)) t)
@@ -88,7 +89,7 @@ module _ (B : List ℕ) (L : Layout) (room : Room B L) where
       each w l f (inl h) = absurd (f (unused-place B a w h l))
       each w l f (inr h) = used-fits (byte B (i + 1 + w)) (used-place B a w h)
 
-  module _ (s : Sound B) where
+  module _ (s : SoundBook B) where
     few : constants B ≤ constantsRange .most
     few = sound-header B s .few-constants
 

@@ -9,7 +9,7 @@ pub mod Conditions
 pub mod Exact
 -- what a sound book gives; how it is read; it keeps to its own numbers
 pub mod Known
-pub mod Sound
+pub mod SoundBook
 pub mod Reading
 pub mod Fits
 -- 01's printed book

@@ -90,8 +90,8 @@ module _ (B : List ℕ) where
       go (inl e) below = (0, omega arith, e)
       go (inr t) below = let b = below t in (suc (b .0), omega (arith, b .1), b .2)
 
-  pub rule-in : (s n k : ℕ) → k < n → ruleAt B (after B s k) ∈ rulesFrom B s n
+  pub rule-member : (s n k : ℕ) → k < n → ruleAt B (after B s k) ∈ rulesFrom B s n
   unfolding rulesFrom after
-  rule-in s zero k l = absurd (omega arith)
-  rule-in s (suc n) zero l = List·Memᴰ·head refl
-  rule-in s (suc n) (suc k) l = List·Memᴰ·tail (rule-in (ruleEnd B s) n k (omega arith))
+  rule-member s zero k l = absurd (omega arith)
+  rule-member s (suc n) zero l = List·Memᴰ·head refl
+  rule-member s (suc n) (suc k) l = List·Memᴰ·tail (rule-member (ruleEnd B s) n k (omega arith))

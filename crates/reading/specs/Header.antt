@@ -39,9 +39,9 @@ rulesAt B = word B 12
 abbrev pub questionAt : List ℕ → ℕ
 questionAt B = word B 14
 
--- "then the total length."
-abbrev pub total : List ℕ → ℕ
-total B = word B 16
+-- "then the totalWord length."
+abbrev pub totalWord : List ℕ → ℕ
+totalWord B = word B 16
 
 -- the nine as the code hands them on
 abbrev pub headerOf : List ℕ → Header
@@ -55,7 +55,7 @@ headerOf B =
       table = relationsAt B;
       start = rulesAt B;
       question = questionAt B;
-      total = total B;
+      total = totalWord B;
     }
 
 -- a header that was read: the nine, each of 16 bits
@@ -97,11 +97,11 @@ abbrev pub headRange : Range
 headRange = record { least = 1; most = 4 }
 
 -- whether a number is in a range, and that it is not
-abbrev pub within : ℕ → ℕ → ℕ → Bool
-within least most n = leb least n && leb n most
+abbrev pub inBounds : ℕ → ℕ → ℕ → Bool
+inBounds least most n = leb least n && leb n most
 
 abbrev pub inside : Range → ℕ → Bool
-inside r n = within (r .least) (r .most) n
+inside r n = inBounds (r .least) (r .most) n
 
 abbrev pub Outside : Range → ℕ → Type 0
 Outside r n = (n < r .least) ⊎ (r .most < n)

@@ -8,7 +8,8 @@ use lib.Dec.{T, eqb, ltb, leb}
 use lib.ListN.{length}
 use Rattle.reading.specs.Word.{byte}
 use Rattle.reading.specs.Header.{headerSize, relations, constants, rules, atoms, allowed, relationsAt, rulesAt}
-use Rattle.reading.specs.Header.{questionAt, total, Outside, relationsRange, constantsRange, rulesRange}
+use Rattle.reading.specs.Header.{questionAt, Outside, relationsRange, constantsRange, rulesRange}
+use Rattle.reading.specs.Header.{totalWord}
 use Rattle.reading.specs.Header.{atomsRange, allowedRange, placesRange, bodyRange, headRange, atomSize}
 use Rattle.reading.specs.Header.{atomPlaces, variables}
 use Rattle.reading.specs.Book.{bodyCount, headCount, bodyAt, headAt, ruleEnd, ruleStart, placesOf}
@@ -31,8 +32,8 @@ pub data OffsetWrong (B : List ℕ) : Type 0 where
   relations-not : (relationsAt B ≡ headerSize → ⊥) → OffsetWrong B
   rules-not : (rulesAt B ≡ headerSize + relations B → ⊥) → OffsetWrong B
   question-below : questionAt B < rulesAt B → OffsetWrong B
-  total-not : (total B ≡ questionAt B + atomSize * atoms B → ⊥) → OffsetWrong B
-  length-not : (total B ≡ length B → ⊥) → OffsetWrong B
+  total-not : (totalWord B ≡ questionAt B + atomSize * atoms B → ⊥) → OffsetWrong B
+  length-not : (totalWord B ≡ length B → ⊥) → OffsetWrong B
 
 -- 5: "a relation's places not 1 to 4", at "that byte"
 pub record PlacesWrong (B : List ℕ) (p : ℕ) : Type 0 where
@@ -78,10 +79,10 @@ pub record ByteWrong (B : List ℕ) (p : ℕ) : Type 0 where
   pub wrong : AtomWrong B atom p
 
 -- "| no. | when | place |"
-pub data Applies (B : List ℕ) : ℕ → ℕ → Type 0 where
-  two : Short B → Applies B 2 0
-  three : OutsideTable B → Applies B 3 0
-  four : OffsetWrong B → Applies B 4 0
-  five : {p : ℕ} → PlacesWrong B p → Applies B 5 p
-  six : {p : ℕ} → RuleWrong B p → Applies B 6 p
-  seven : {p : ℕ} → ByteWrong B p → Applies B 7 p
+pub data ApplicableToBook (B : List ℕ) : ℕ → ℕ → Type 0 where
+  two : Short B → ApplicableToBook B 2 0
+  three : OutsideTable B → ApplicableToBook B 3 0
+  four : OffsetWrong B → ApplicableToBook B 4 0
+  five : {p : ℕ} → PlacesWrong B p → ApplicableToBook B 5 p
+  six : {p : ℕ} → RuleWrong B p → ApplicableToBook B 6 p
+  seven : {p : ℕ} → ByteWrong B p → ApplicableToBook B 7 p

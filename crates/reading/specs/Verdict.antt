@@ -17,7 +17,8 @@ use Rattle.reading.specs.Header.{headerSize, relations, constants, rules
 use Rattle.reading.specs.Header.{relationsRange, constantsRange, rulesRange, atomsRange, allowedRange}
 use Rattle.reading.specs.Header.{placesRange, bodyRange, headRange, atomSize, atomPlaces}
 use Rattle.reading.specs.Book.{bodyCount, headCount, bodyAt, ruleEnd, rulesStart, placesOf}
-use Rattle.reading.specs.Refusals.{placeAllowed, Applies}
+use Rattle.reading.specs.Refusals.{placeAllowed}
+use Rattle.reading.specs.Refusals.{ApplicableToBook}
 
 -- "0 means complete"; of the book alone, that nothing is wrong with it
 abbrev pub accepted : Refusal
@@ -29,8 +30,8 @@ NoLater r m q = (r .number < m) ⊎ ((r .number ≡ m) × (r .place ≤ q))
 
 -- "The smallest applicable number .. wins, and within it the earliest place."
 pub data IsVerdict (B : List ℕ) (r : Refusal) : Type 0 where
-  sound : r ≡ accepted → ((n p : ℕ) → Applies B n p → ⊥) → IsVerdict B r
-  refused : Applies B (r .number) (r .place) → ((m q : ℕ) → Applies B m q → NoLater r m q) → IsVerdict B r
+  sound : r ≡ accepted → ((n p : ℕ) → ApplicableToBook B n p → ⊥) → IsVerdict B r
+  refused : ApplicableToBook B (r .number) (r .place) → ((m q : ℕ) → ApplicableToBook B m q → NoLater r m q) → IsVerdict B r
 
 -- the place i, where the test is not passed
 abbrev pub unless : Bool → ℕ → Option ℕ
@@ -117,5 +118,5 @@ verdict B =
     (refuse 4 (unless (offsetsRight (headerOf B) (length B)) 0) (contents B)))
 
 -- a book that is not refused
-abbrev pub Sound : List ℕ → Type 0
-Sound B = verdict B .number ≡ 0
+abbrev pub SoundBook : List ℕ → Type 0
+SoundBook B = verdict B .number ≡ 0

@@ -1,7 +1,7 @@
 // What one rule makes of one question: each valid choice's number and its rewriting, a book a listing. The relation
 // numbers are in the order of the book's relations.
 ghost use Prim.Native.Nat.{_+_, _≤_};
-ghost use Rattle.unify.specs.Held.{QuestionIn, RuleIn};
+ghost use Rattle.unify.specs.InBytes.{QuestionIn, RuleIn};
 use book::Parts;
 use libc::STDOUT_FILENO;
 

@@ -13,7 +13,8 @@ use Rattle.covering.specs.Covers.{Sends}
 use Rattle.covering.specs.Lists.{_∈_, numbers}
 use Rattle.covering.specs.Term.{Term, Atom, Question, terms, Sub, on-atom, on-question}
 use Rattle.covering.proofs.Terms.{terms-in, terms-out}
-use Rattle.unification.specs.Classes.{Kernel, Holds}
+use Rattle.unification.specs.Classes.{Kernel}
+use Rattle.unification.specs.Classes.{HoldsPairs}
 use Rattle.unification.specs.Choice.{Choice, choices, someSent, left, sent, toHead, pairing}
 use Rattle.unification.proofs.Collected.{gather-in, numbers-in}
 use Rattle.unification.proofs.Pairs.{atom-holds, holds-append}
@@ -22,7 +23,7 @@ use Rattle.unification.proofs.Pairs.{atom-holds, holds-append}
 pub record Digit (s : Sub) (H : Question) (a : Atom) : Type 0 where
   pub digit : ℕ
   pub small : digit < length H
-  pub meets : Holds (Kernel s) (toHead H digit a)
+  pub meets : HoldsPairs (Kernel s) (toHead H digit a)
 
 pub find-digit : (s : Sub) (H : Question) (a : Atom) → on-atom s a ∈ on-question s H → Digit s H a
 find-digit s [] a m = absurd (List·Memᴰ·not-nil m)
@@ -42,7 +43,7 @@ choices-in h n d ds k m =
 pub record Chosen (s : Sub) (F H Q : Question) : Type 0 where
   pub choice : Choice
   pub listed : choice ∈ choices (length H) (length Q)
-  pub meets : Holds (Kernel s) (pairing choice Q H)
+  pub meets : HoldsPairs (Kernel s) (pairing choice Q H)
   pub leaves : Sends s (left choice Q) F
 
 pub choose : (s : Sub) (F H Q : Question) → Sends s Q (F ++ on-question s H) → Chosen s F H Q
@@ -86,29 +87,29 @@ idle (suc d ∷ ds) (a ∷ Q) t = absurd (subst (λ (b : Bool). T (not (not b ||
 
 -- a choice leaves an atom or pairs it with a head atom
 pub split-choice : (E : Term → Term → Type 0) (ds : Choice) (Q H : Question) (a : Atom)
-    → Holds E (pairing ds Q H) → a ∈ Q → (a ∈ left ds Q) ⊎ ((d : ℕ) × Holds E (toHead H d a))
+    → HoldsPairs E (pairing ds Q H) → a ∈ Q → (a ∈ left ds Q) ⊎ ((d : ℕ) × HoldsPairs E (toHead H d a))
 split-choice E [] Q H a h m = inl m
 split-choice E (d ∷ ds) [] H a h m = absurd (List·Memᴰ·not-nil m)
 split-choice E (zero ∷ ds) (b ∷ Q) H a h m = go (List·Memᴰ·cases-cons m) (λ n. split-choice E ds Q H a h n)
   where
-    go : (a ≡ b) ⊎ (a ∈ Q) → (a ∈ Q → (a ∈ left ds Q) ⊎ ((d : ℕ) × Holds E (toHead H d a)))
-        → (a ∈ b ∷ left ds Q) ⊎ ((d : ℕ) × Holds E (toHead H d a))
+    go : (a ≡ b) ⊎ (a ∈ Q) → (a ∈ Q → (a ∈ left ds Q) ⊎ ((d : ℕ) × HoldsPairs E (toHead H d a)))
+        → (a ∈ b ∷ left ds Q) ⊎ ((d : ℕ) × HoldsPairs E (toHead H d a))
     go (inl e) below = inl (List·Memᴰ·head e)
     go (inr n) below = more (below n)
       where
-        more : (a ∈ left ds Q) ⊎ ((d : ℕ) × Holds E (toHead H d a))
-            → (a ∈ b ∷ left ds Q) ⊎ ((d : ℕ) × Holds E (toHead H d a))
+        more : (a ∈ left ds Q) ⊎ ((d : ℕ) × HoldsPairs E (toHead H d a))
+            → (a ∈ b ∷ left ds Q) ⊎ ((d : ℕ) × HoldsPairs E (toHead H d a))
         more (inl k) = inl (List·Memᴰ·tail k)
         more (inr k) = inr k
 split-choice E (suc d ∷ ds) (b ∷ Q) H a h m =
     go (List·Memᴰ·cases-cons m) (λ n. split-choice E ds Q H a (λ p q. h p (Memᴰ·append-right (toHead H d b) q)) n)
   where
-    go : (a ≡ b) ⊎ (a ∈ Q) → (a ∈ Q → (a ∈ left ds Q) ⊎ ((d : ℕ) × Holds E (toHead H d a)))
-        → (a ∈ left ds Q) ⊎ ((d : ℕ) × Holds E (toHead H d a))
+    go : (a ≡ b) ⊎ (a ∈ Q) → (a ∈ Q → (a ∈ left ds Q) ⊎ ((d : ℕ) × HoldsPairs E (toHead H d a)))
+        → (a ∈ left ds Q) ⊎ ((d : ℕ) × HoldsPairs E (toHead H d a))
     go (inl e) below =
         inr (
           d,
-          subst (λ (c : Atom). Holds E (toHead H d c)) (sym e)
+          subst (λ (c : Atom). HoldsPairs E (toHead H d c)) (sym e)
               (λ p q. h p (Memᴰ·append-left (pairing ds Q H) q)),
         )
     go (inr n) below = below n

@@ -11,7 +11,8 @@ use Rattle.covering.specs.Lists.{_∈_, bind}
 use Rattle.covering.specs.Term.{Term, Sub, on-term, comp, var, con}
 use Rattle.covering.proofs.Tests.{decide, none≢some, cond-yes, cond-no}
 use Rattle.covering.proofs.Terms.{con-inj, on-term-var, on-term-comp}
-use Rattle.unification.specs.Classes.{Pair, point, join, merge, unify, Kernel, Holds, Equivalence, Admissible}
+use Rattle.unification.specs.Classes.{Pair, point, join, merge, unify, Kernel, Equivalence, Admissible}
+use Rattle.unification.specs.Classes.{HoldsPairs}
 
 point-cases : (v : ℕ) (b : Term) (n : ℕ) → ((n ≡ v) × (point v b (var n) ≡ b)) ⊎ (point v b (var n) ≡ var n)
 point-cases v b n = go (decide (eqb n v))
@@ -58,7 +59,7 @@ module _ (E : Term → Term → Type 0) (ad : Admissible E) where
         near = h;
       }
 
-  pub unify-least : (ps : List Pair) (σ : Sub) → Near E σ → Holds E ps → Least E (unify ps σ)
+  pub unify-least : (ps : List Pair) (σ : Sub) → Near E σ → HoldsPairs E ps → Least E (unify ps σ)
   unify-least [] σ h k = record { classes = σ; found = refl; near = h }
   unify-least (p ∷ ps) σ h k =
       let one : Least E (merge σ p) =
@@ -132,7 +133,7 @@ join-sound σ τ (con c) (con d) e = go (decide (eqb c d))
 pub record Solved (ps : List Pair) (σ τ : Sub) : Type 0 where
   pub more : Sub
   pub factors : (n : ℕ) → τ n ≡ on-term more (σ n)
-  pub holds : Holds (Kernel τ) ps
+  pub holds : HoldsPairs (Kernel τ) ps
 
 pub unify-sound : (ps : List Pair) (σ τ : Sub) → unify ps σ ≡ some τ → Solved ps σ τ
 unify-sound [] σ τ e =
@@ -176,14 +177,14 @@ kernel-admissible s =
 
 -- If classes are found, they hold the pairs, and whatever equivalence holds the pairs holds what is in one class
 pub least-equivalence : (ps : List Pair) (σ : Sub) → unify ps var ≡ some σ
-    → Holds (Kernel σ) ps
-    × ((E : Term → Term → Type 0) → Equivalence E → Holds E ps → (t u : Term) → Kernel σ t u → E t u)
+    → HoldsPairs (Kernel σ) ps
+    × ((E : Term → Term → Type 0) → Equivalence E → HoldsPairs E ps → (t u : Term) → Kernel σ t u → E t u)
 least-equivalence ps σ e = (h, λ E q k t u x. least E q k t u x)
   where
-    h : Holds (Kernel σ) ps
+    h : HoldsPairs (Kernel σ) ps
     h = unify-sound ps var σ e .holds
 
-    least : (E : Term → Term → Type 0) → Equivalence E → Holds E ps → (t u : Term) → Kernel σ t u → E t u
+    least : (E : Term → Term → Type 0) → Equivalence E → HoldsPairs E ps → (t u : Term) → Kernel σ t u → E t u
     least E q k t u x =
         let B : Term → Term → Type 0 = λ t u. E t u × Kernel σ t u in
         let ad : Admissible B =
@@ -211,5 +212,5 @@ idempotent ps σ e t =
     (near-term (Kernel σ) (kernel-admissible σ) (r .classes) (r .near) t)
 
 -- If no classes are found, every equivalence that holds the pairs has two constants in one class
-pub clash-means : (ps : List Pair) → unify ps var ≡ none → (E : Term → Term → Type 0) → Admissible E → Holds E ps → ⊥
+pub clash-means : (ps : List Pair) → unify ps var ≡ none → (E : Term → Term → Type 0) → Admissible E → HoldsPairs E ps → ⊥
 clash-means ps e E ad h = none≢some (sym e ∙ unify-least E ad ps var (λ n. ad .eq .same (var n)) h .found)

@@ -13,7 +13,7 @@ use Rattle.covering.specs.Lists.{_∈_}
 use Rattle.covering.specs.Term.{Term, Atom, Question}
 use Rattle.covering.proofs.Lists.{any-in}
 use Rattle.covering.proofs.Tests.{decide, clash, cond-yes, cond-no}
-use Rattle.unification.specs.Classes.{Holds}
+use Rattle.unification.specs.Classes.{HoldsPairs}
 use Rattle.unification.specs.Choice.{Choice, choices, someSent, left, sent, toHead, pairing}
 use Rattle.unification.specs.Published.{memAtom, without, digits}
 use Rattle.unification.proofs.Choices.{choices-in}
@@ -61,34 +61,34 @@ module _ (A : Question) (to : Atom → ℕ) where
           omega arith
       small (inr t) = let e : digit a ≡ 0 = cond-no (memAtom a A) (suc (to a)) 0 t in omega arith
 
-  pub digits-hold : (E : Term → Term → Type 0) (Q H : Question) → ((a : Atom) → a ∈ A → Holds E (toHead H (to a) a))
-      → Holds E (pairing (digits A to Q) Q H)
+  pub digits-hold : (E : Term → Term → Type 0) (Q H : Question) → ((a : Atom) → a ∈ A → HoldsPairs E (toHead H (to a) a))
+      → HoldsPairs E (pairing (digits A to Q) Q H)
   digits-hold E [] H f = λ p m. absurd (List·Memᴰ·not-nil m)
   digits-hold E (a ∷ Q) H f = go (decide (memAtom a A)) (digits-hold E Q H f)
     where
-      go : T (memAtom a A) ⊎ T (not (memAtom a A)) → Holds E (pairing (digits A to Q) Q H)
-          → Holds E (pairing (digit a ∷ digits A to Q) (a ∷ Q) H)
+      go : T (memAtom a A) ⊎ T (not (memAtom a A)) → HoldsPairs E (pairing (digits A to Q) Q H)
+          → HoldsPairs E (pairing (digit a ∷ digits A to Q) (a ∷ Q) H)
       go (inl t) below =
-          subst (λ (d : ℕ). Holds E (pairing (d ∷ digits A to Q) (a ∷ Q) H))
+          subst (λ (d : ℕ). HoldsPairs E (pairing (d ∷ digits A to Q) (a ∷ Q) H))
           (sym (cond-yes (memAtom a A) (suc (to a)) 0 t))
           (holds-append E (toHead H (to a) a) (pairing (digits A to Q) Q H) (f a (memAtom→mem A t)) below)
       go (inr t) below =
-          subst (λ (d : ℕ). Holds E (pairing (d ∷ digits A to Q) (a ∷ Q) H))
+          subst (λ (d : ℕ). HoldsPairs E (pairing (d ∷ digits A to Q) (a ∷ Q) H))
           (sym (cond-no (memAtom a A) (suc (to a)) 0 t)) below
 
-  pub digits-held : (E : Term → Term → Type 0) (Q H : Question) → Holds E (pairing (digits A to Q) Q H) → (a : Atom)
-      → a ∈ Q → a ∈ A → Holds E (toHead H (to a) a)
+  pub digits-held : (E : Term → Term → Type 0) (Q H : Question) → HoldsPairs E (pairing (digits A to Q) Q H) → (a : Atom)
+      → a ∈ Q → a ∈ A → HoldsPairs E (toHead H (to a) a)
   digits-held E [] H h a m n = absurd (List·Memᴰ·not-nil m)
   digits-held E (b ∷ Q) H h a m n =
       go (decide (memAtom b A)) (List·Memᴰ·cases-cons m) (λ below k. digits-held E Q H below a k n)
     where
       Rest : Type 0
-      Rest = Holds E (pairing (digits A to Q) Q H) → a ∈ Q → Holds E (toHead H (to a) a)
+      Rest = HoldsPairs E (pairing (digits A to Q) Q H) → a ∈ Q → HoldsPairs E (toHead H (to a) a)
 
-      whole : (d : ℕ) → digit b ≡ d → Holds E (pairing (d ∷ digits A to Q) (b ∷ Q) H)
-      whole d e = subst (λ (x : ℕ). Holds E (pairing (x ∷ digits A to Q) (b ∷ Q) H)) e h
+      whole : (d : ℕ) → digit b ≡ d → HoldsPairs E (pairing (d ∷ digits A to Q) (b ∷ Q) H)
+      whole d e = subst (λ (x : ℕ). HoldsPairs E (pairing (x ∷ digits A to Q) (b ∷ Q) H)) e h
 
-      go : T (memAtom b A) ⊎ T (not (memAtom b A)) → (a ≡ b) ⊎ (a ∈ Q) → Rest → Holds E (toHead H (to a) a)
+      go : T (memAtom b A) ⊎ T (not (memAtom b A)) → (a ≡ b) ⊎ (a ∈ Q) → Rest → HoldsPairs E (toHead H (to a) a)
       go (inl t) (inl e) rest = λ p k.
           whole (suc (to b)) (cond-yes (memAtom b A) (suc (to b)) 0 t) p
           (Memᴰ·append-left (pairing (digits A to Q) Q H) (subst (λ (c : Atom). p ∈ toHead H (to c) c) e k))

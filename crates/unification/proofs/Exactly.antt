@@ -17,9 +17,10 @@ use Rattle.covering.specs.Lists.{_∈_, Distinct}
 use Rattle.covering.specs.Term.{Term, Atom, Question, terms, Sub, on-term, on-atom, on-question, var}
 use Rattle.covering.proofs.Form.{form-distinct}
 use Rattle.covering.proofs.Tests.{decide}
-use Rattle.covering.proofs.Same.{form-same}
+use Rattle.covering.proofs.SameForm.{form-same}
 use Rattle.covering.specs.Rule.{Rule}
-use Rattle.unification.specs.Classes.{unify, Kernel, Holds}
+use Rattle.unification.specs.Classes.{unify, Kernel}
+use Rattle.unification.specs.Classes.{HoldsPairs}
 use Rattle.unification.specs.Choice.{Choice, number, choices, Ascending, left, sent, toHead, pairing}
 use Rattle.unification.specs.Step.{up, move, Below, memTerm, listed}
 use Rattle.unification.specs.Published.{without, scope, PieceUnifier, Puts, digits, Publishes}
@@ -31,7 +32,7 @@ use Rattle.unification.proofs.Numbers.{choice-length, listed-ascending,
 use Rattle.unification.proofs.Pairs.{memTerm→mem}
 use Rattle.unification.proofs.Pieces.{selected-out, valid-below}
 use Rattle.unification.proofs.Puts.{puts-more, puts-hold, hold-puts, at-head, head-at, at-small}
-use Rattle.unification.proofs.Same.{alike-absorbed}
+use Rattle.unification.proofs.Representatives.{alike-absorbed}
 use Rattle.unification.proofs.Unifiers.{choice-piece, choice-no-more, choice-beta, choice-unified}
 use Rattle.unification.proofs.Valid.{near-on}
 
@@ -84,10 +85,10 @@ module _ {k : ℕ} {r : Rule} {Q : Question} {n : ℕ} {X : Question} (below : B
   ds = digits (μ .unified) (p .to) Q
 
   -- the unifier's substitution holds the choice's pairs
-  u-holds : Holds (Kernel (μ .u)) (pairing ds Q H)
+  u-holds : HoldsPairs (Kernel (μ .u)) (pairing ds Q H)
   u-holds = digits-hold (μ .unified) (p .to) (Kernel (μ .u)) Q H each
     where
-      each : (a : Atom) → a ∈ μ .unified → Holds (Kernel (μ .u)) (toHead H (p .to a) a)
+      each : (a : Atom) → a ∈ μ .unified → HoldsPairs (Kernel (μ .u)) (toHead H (p .to a) a)
       each a m =
           let x = p .no-more .paired a m in
           at-head (Kernel (μ .u)) H (p .to a) a (x .atom) (x .at)
@@ -101,7 +102,7 @@ module _ {k : ℕ} {r : Rule} {Q : Question} {n : ℕ} {X : Question} (below : B
   abbrev σ : Sub
   σ = found .classes
 
-  σ-holds : Holds (Kernel σ) (pairing ds Q H)
+  σ-holds : HoldsPairs (Kernel σ) (pairing ds Q H)
   σ-holds = unify-sound (pairing ds Q H) var σ (found .found) .holds
 
   -- nor does the unifier merge more than they: its partition is the least that puts each atom on its head atom

@@ -16,7 +16,8 @@ use Rattle.covering.specs.Term.{Term, Atom, Question, Sub, eqAtom}
 use Rattle.covering.proofs.Lists.{keep-all, keep-same, map-same}
 use Rattle.covering.proofs.Tests.{not-of, no→false, none≢some, cond-yes, cond-no}
 use Rattle.covering.proofs.Terms.{eqAtom→eq, eqAtom-refl}
-use Rattle.unification.specs.Classes.{Kernel, Holds, Equivalence}
+use Rattle.unification.specs.Classes.{Kernel, Equivalence}
+use Rattle.unification.specs.Classes.{HoldsPairs}
 use Rattle.unification.specs.Choice.{Choice, left, sent, toHead, pairing}
 use Rattle.unification.specs.Published.{memAtom, without, Puts, digits}
 use Rattle.unification.proofs.Choices.{sent-in}
@@ -114,7 +115,7 @@ pub record Hit (σ : Sub) (ds : Choice) (Q H : Question) (a : Atom) : Type 0 whe
   pub puts : Puts (Kernel σ) a atom
 
 -- classes that put an atom on the head atom at a place
-first-hit : (σ : Sub) (d : ℕ) (a : Atom) (H : Question) → Holds (Kernel σ) (toHead H d a)
+first-hit : (σ : Sub) (d : ℕ) (a : Atom) (H : Question) → HoldsPairs (Kernel σ) (toHead H d a)
     → (b : Atom) × (getElem? H d ≡ some b) × Puts (Kernel σ) a b
 first-hit σ d a H h =
     let b = head-there σ H d a h in
@@ -133,7 +134,7 @@ pushed-cases none x l m = inr m
 pushed-cases (some y) x l (List·Memᴰ·head e) = inl (ap some (sym e))
 pushed-cases (some y) x l (List·Memᴰ·tail m) = inr m
 
-pub hit-there : (σ : Sub) (ds : Choice) (Q H : Question) → Distinct Q → Holds (Kernel σ) (pairing ds Q H)
+pub hit-there : (σ : Sub) (ds : Choice) (Q H : Question) → Distinct Q → HoldsPairs (Kernel σ) (pairing ds Q H)
     → (a : Atom)
     → a ∈ sent ds Q → Hit σ ds Q H a
 hit-there σ [] Q H x h a m = absurd (List·Memᴰ·not-nil m)
@@ -177,7 +178,7 @@ pub record HitBy (σ : Sub) (ds : Choice) (Q H : Question) (b : Atom) : Type 0 w
   pub within : b ∈ H
   pub puts : Puts (Kernel σ) atom b
 
-pub hit-by : (σ : Sub) (ds : Choice) (Q H : Question) → Holds (Kernel σ) (pairing ds Q H) → (b : Atom)
+pub hit-by : (σ : Sub) (ds : Choice) (Q H : Question) → HoldsPairs (Kernel σ) (pairing ds Q H) → (b : Atom)
     → b ∈ hits ds Q H → HitBy σ ds Q H b
 hit-by σ [] Q H h b m = absurd (List·Memᴰ·not-nil m)
 hit-by σ (d ∷ ds) [] H h b m = absurd (List·Memᴰ·not-nil m)
@@ -205,8 +206,8 @@ hit-by σ (suc d ∷ ds) (a ∷ Q) H h b m =
 
 -- whatever puts each sent atom on its head atom holds the choice's pairs
 pub puts-pairing : (E : Term → Term → Type 0) → Equivalence E → (σ : Sub) (ds : Choice) (Q H : Question)
-    → Distinct Q → Holds (Kernel σ) (pairing ds Q H)
-    → ((a b : Atom) → a ∈ sent ds Q → getElem? H (placeOf ds Q a) ≡ some b → Puts E a b) → Holds E (pairing ds Q H)
+    → Distinct Q → HoldsPairs (Kernel σ) (pairing ds Q H)
+    → ((a b : Atom) → a ∈ sent ds Q → getElem? H (placeOf ds Q a) ≡ some b → Puts E a b) → HoldsPairs E (pairing ds Q H)
 puts-pairing E eq σ [] Q H x h f = λ p m. absurd (List·Memᴰ·not-nil m)
 puts-pairing E eq σ (d ∷ ds) [] H x h f = λ p m. absurd (List·Memᴰ·not-nil m)
 puts-pairing E eq σ (zero ∷ ds) (a ∷ Q) H x h f =
@@ -221,7 +222,7 @@ puts-pairing E eq σ (suc d ∷ ds) (a ∷ Q) H x h f =
     b : (b : Atom) × (getElem? H d ≡ some b) × Puts (Kernel σ) a b
     b = first-hit σ d a H (λ p n. h p (Memᴰ·append-left (pairing ds Q H) n))
 
-    here : Holds E (toHead H d a)
+    here : HoldsPairs E (toHead H d a)
     here =
         at-head E H d a (b .0) (b .1)
         (puts-hold a (b .0) eq

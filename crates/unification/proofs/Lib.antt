@@ -9,7 +9,7 @@ pub mod Moved
 pub mod Classes
 pub mod Valid
 pub mod Means
-pub mod Same
+pub mod Representatives
 -- the list of rewritings: what stands in it, in which order, from a number on, how large; k does not matter
 pub mod Listed
 pub mod Numbers
@@ -17,8 +17,8 @@ pub mod Following
 pub mod Sizes
 pub mod Shift
 -- a step is sound and complete for rule application
-pub mod Sound
-pub mod Complete
+pub mod StepSound
+pub mod StepComplete
 -- the list is exactly the published one
 pub mod Puts
 pub mod Pieces

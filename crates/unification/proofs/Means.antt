@@ -11,7 +11,8 @@ use Rattle.covering.specs.Lists.{_∈_}
 use Rattle.covering.specs.Term.{Term, Atom, Question, terms, Sub, on-term, var, con}
 use Rattle.covering.proofs.Terms.{var≢con}
 use Rattle.covering.specs.Rule.{Rule, Unknown}
-use Rattle.unification.specs.Classes.{Pair, unify, Kernel, Holds, Equivalence}
+use Rattle.unification.specs.Classes.{Pair, unify, Kernel, Equivalence}
+use Rattle.unification.specs.Classes.{HoldsPairs}
 use Rattle.unification.specs.Choice.{Choice, left, placePairs, toHead, pairing}
 use Rattle.unification.specs.Step.{move, Below, guarded, valid}
 use Rattle.unification.proofs.Classes.{unify-sound, least-equivalence, idempotent}
@@ -38,7 +39,7 @@ abbrev PlaceSides : List Term → List Term → Pair → Type 0
 PlaceSides ts us p = (p .0 ∈ ts) × (p .1 ∈ us)
 
 module _ (σ : Sub) where
-  places-sides : (ts us : List Term) → Holds (Kernel σ) (placePairs ts us) → (p : Pair) → p ∈ placePairs ts us
+  places-sides : (ts us : List Term) → HoldsPairs (Kernel σ) (placePairs ts us) → (p : Pair) → p ∈ placePairs ts us
       → PlaceSides ts us p
   places-sides [] [] h p m = absurd (List·Memᴰ·not-nil m)
   places-sides [] (u ∷ us) h p m = absurd (no-clash σ h)
@@ -51,7 +52,7 @@ module _ (σ : Sub) where
       go (inl e) below = (List·Memᴰ·head (ap (λ (q : Pair). q .0) e), List·Memᴰ·head (ap (λ (q : Pair). q .1) e))
       go (inr n) below = let r = below n in (List·Memᴰ·tail (r .0), List·Memᴰ·tail (r .1))
 
-  head-sides : (H : Question) (d : ℕ) (a : Atom) → Holds (Kernel σ) (toHead H d a) → (p : Pair)
+  head-sides : (H : Question) (d : ℕ) (a : Atom) → HoldsPairs (Kernel σ) (toHead H d a) → (p : Pair)
       → p ∈ toHead H d a → (p .0 ≡ p .1) ⊎ PlaceSides (a .args) (terms H) p
   head-sides [] d a h p m = absurd (no-clash σ h)
   head-sides (b ∷ H) zero a h p m = go (List·Memᴰ·cases-cons m)
@@ -73,7 +74,7 @@ module _ (σ : Sub) where
       go (inl e) = inl e
       go (inr x) = inr (x .0, Memᴰ·append-right (b .args) (x .1))
 
-  pairing-sides : (ds : Choice) (Q H : Question) → Holds (Kernel σ) (pairing ds Q H) → (p : Pair)
+  pairing-sides : (ds : Choice) (Q H : Question) → HoldsPairs (Kernel σ) (pairing ds Q H) → (p : Pair)
       → p ∈ pairing ds Q H → Sides Q H (p .0) (p .1)
   pairing-sides [] Q H h p m = absurd (List·Memᴰ·not-nil m)
   pairing-sides (d ∷ ds) [] H h p m = absurd (List·Memᴰ·not-nil m)
@@ -135,14 +136,14 @@ module _ (k : ℕ) (r : Rule) (Q : Question) (below : Below k Q) (ds : Choice) (
     class-terms t v e =
         least-equivalence (pairing ds Q (r′ .head)) σ found .1 (Among S) (among-equivalence S) pairs t v e
       where
-        solved : Holds (Kernel σ) (pairing ds Q (r′ .head))
+        solved : HoldsPairs (Kernel σ) (pairing ds Q (r′ .head))
         solved = unify-sound (pairing ds Q (r′ .head)) var σ found .holds
 
         among : (p : Pair) → Sides Q (r′ .head) (p .0) (p .1) → Among S (p .0) (p .1)
         among p (inl x) = inl x
         among p (inr x) = inr (Memᴰ·append-left (terms (r′ .head)) (x .0), Memᴰ·append-right (terms Q) (x .1))
 
-        pairs : Holds (Among S) (pairing ds Q (r′ .head))
+        pairs : HoldsPairs (Among S) (pairing ds Q (r′ .head))
         pairs p m = among p (pairing-sides σ ds Q (r′ .head) solved p m)
 
     -- a constant that stands for a variable is a term of the question or of the head

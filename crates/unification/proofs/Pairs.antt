@@ -13,7 +13,8 @@ use Rattle.covering.specs.Lists.{_∈_}
 use Rattle.covering.specs.Term.{Term, Atom, Question, terms, Sub, on-term, on-atom, eqTerm, con}
 use Rattle.covering.proofs.Lists.{any-in, any-out}
 use Rattle.covering.proofs.Terms.{con-inj, atom-path, eqTerm→eq, eqTerm-refl, terms-in, terms-out}
-use Rattle.unification.specs.Classes.{Pair, Kernel, Holds}
+use Rattle.unification.specs.Classes.{Pair, Kernel}
+use Rattle.unification.specs.Classes.{HoldsPairs}
 use Rattle.unification.specs.Choice.{never, placePairs, atomPairs, toHead}
 use Rattle.unification.specs.Step.{memTerm}
 
@@ -28,7 +29,7 @@ memTerm→mem {t} ts h = let r = any-out (eqTerm t) ts h in Memᴰ·cast (eqTerm
 
 -- pairs that meet
 pub zip-holds : (s : Sub) (ts us : List Term) → map (on-term s) ts ≡ map (on-term s) us
-    → Holds (Kernel s) (placePairs ts us)
+    → HoldsPairs (Kernel s) (placePairs ts us)
 zip-holds s [] [] e p m = absurd (List·Memᴰ·not-nil m)
 zip-holds s [] (u ∷ us) e p m = absurd (nil≢cons e)
 zip-holds s (t ∷ ts) [] e p m = absurd (cons≢nil e)
@@ -39,31 +40,31 @@ zip-holds s (t ∷ ts) (u ∷ us) e p m = go (List·Memᴰ·cases-cons m) (λ n.
     go (inl q) below = rw q (head-eq-of-cons-eq e)
     go (inr n) below = below n
 
-pub atom-holds : (s : Sub) (a b : Atom) → on-atom s a ≡ on-atom s b → Holds (Kernel s) (atomPairs a b)
+pub atom-holds : (s : Sub) (a b : Atom) → on-atom s a ≡ on-atom s b → HoldsPairs (Kernel s) (atomPairs a b)
 atom-holds s a b e p m = go (List·Memᴰ·cases-cons m)
   where
     go : (p ≡ (con (a .rel), con (b .rel))) ⊎ (p ∈ placePairs (a .args) (b .args)) → Kernel s (p .0) (p .1)
     go (inl q) = rw q (ap (λ (c : Atom). con (c .rel)) e)
     go (inr n) = zip-holds s (a .args) (b .args) (ap (λ (c : Atom). c .args) e) p n
 
-pub holds-append : (E : Term → Term → Type 0) (ps qs : List Pair) → Holds E ps → Holds E qs → Holds E (ps ++ qs)
+pub holds-append : (E : Term → Term → Type 0) (ps qs : List Pair) → HoldsPairs E ps → HoldsPairs E qs → HoldsPairs E (ps ++ qs)
 holds-append E ps qs f g p m = go (List·Memᴰ·append-cases ps m)
   where
     go : (p ∈ ps) ⊎ (p ∈ qs) → E (p .0) (p .1)
     go (inl n) = f p n
     go (inr n) = g p n
 
-pub no-clash : (s : Sub) → Holds (Kernel s) never → ⊥
+pub no-clash : (s : Sub) → HoldsPairs (Kernel s) never → ⊥
 no-clash s h = let e : _≡_ {A = ℕ} 0 1 = con-inj (h (con 0, con 1) (List·Memᴰ·head refl)) in omega arith
 
-pub head-of : (s : Sub) (H : Question) (d : ℕ) (a : Atom) → Holds (Kernel s) (toHead H d a)
-    → (b : Atom) × (b ∈ H) × Holds (Kernel s) (atomPairs a b)
+pub head-of : (s : Sub) (H : Question) (d : ℕ) (a : Atom) → HoldsPairs (Kernel s) (toHead H d a)
+    → (b : Atom) × (b ∈ H) × HoldsPairs (Kernel s) (atomPairs a b)
 head-of s [] d a h = absurd (no-clash s h)
 head-of s (b ∷ H) zero a h = (b, List·Memᴰ·head refl, h)
 head-of s (b ∷ H) (suc d) a h = let r = head-of s H d a h in (r .0, List·Memᴰ·tail (r .1), r .2)
 
 -- two maps that meet at each pair meet at the atoms
-pub zip-meet : (s : Sub) (f g : Term → Term) (ts us : List Term) → Holds (Kernel s) (placePairs ts us)
+pub zip-meet : (s : Sub) (f g : Term → Term) (ts us : List Term) → HoldsPairs (Kernel s) (placePairs ts us)
     → ((t u : Term) → u ∈ us → Kernel s t u → f t ≡ g u) → map f ts ≡ map g us
 zip-meet s f g [] [] h k = refl
 zip-meet s f g [] (u ∷ us) h k = absurd (no-clash s h)
@@ -72,7 +73,7 @@ zip-meet s f g (t ∷ ts) (u ∷ us) h k =
     ap₂ _∷_ (k t u (List·Memᴰ·head refl) (h (t, u) (List·Memᴰ·head refl)))
     (zip-meet s f g ts us (λ p m. h p (List·Memᴰ·tail m)) (λ t′ u′ m. k t′ u′ (List·Memᴰ·tail m)))
 
-pub atom-meet : (s r q : Sub) (a b : Atom) → Holds (Kernel s) (atomPairs a b)
+pub atom-meet : (s r q : Sub) (a b : Atom) → HoldsPairs (Kernel s) (atomPairs a b)
     → ((t u : Term) → u ∈ b .args → Kernel s t u → on-term r t ≡ on-term q u) → on-atom r a ≡ on-atom q b
 atom-meet s r q a b h k =
     atom-path (con-inj (h (con (a .rel), con (b .rel)) (List·Memᴰ·head refl)))

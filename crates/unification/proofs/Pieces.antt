@@ -19,7 +19,8 @@ use Rattle.covering.proofs.Lists.{any-in, any-out}
 use Rattle.covering.proofs.Tests.{decide, clash, or-right, cond-yes, cond-no}
 use Rattle.covering.proofs.Terms.{var≢con, eqAtom→eq, eqAtom-refl, terms-in, terms-out}
 use Rattle.covering.specs.Rule.{Rule, Unknown}
-use Rattle.unification.specs.Classes.{unify, Kernel, Holds}
+use Rattle.unification.specs.Classes.{unify, Kernel}
+use Rattle.unification.specs.Classes.{HoldsPairs}
 use Rattle.unification.specs.Choice.{Choice, number, choices, someSent, left, toHead, pairing}
 use Rattle.unification.specs.Step.{up, move, Below, memTerm, guarded, valid, rewriting, rewritings}
 use Rattle.unification.specs.Published.{memAtom, without, scope, NonSeparating, PieceUnifier, beta}
@@ -51,7 +52,7 @@ not-not false = refl
 record Picked (s : Sub) (H A Q : Question) : Type 0 where
   choice : Choice
   among : choice ∈ choices (length H) (length Q)
-  meets : Holds (Kernel s) (pairing choice Q H)
+  meets : HoldsPairs (Kernel s) (pairing choice Q H)
   leaves : left choice Q ≡ without Q A
   sends : (a : Atom) → a ∈ Q → a ∈ A → T (someSent choice)
 

@@ -10,13 +10,13 @@ use Rattle.covering.specs.Form.{form}
 use Rattle.covering.specs.Lists.{_∈_}
 use Rattle.covering.specs.Term.{Term, Atom, Question, terms, Sub, on-term, on-atom, on-question, comp, var, con}
 use Rattle.covering.proofs.Tests.{decide, clash}
-use Rattle.covering.proofs.Same.{form-same}
+use Rattle.covering.proofs.SameForm.{form-same}
 use Rattle.covering.proofs.Terms.{on-term-comp, on-atom-same, on-atom-comp}
 use Rattle.covering.specs.Rule.{Rule}
 use Rattle.unification.specs.Step.{memTerm}
 use Rattle.unification.specs.Published.{without, scope, Selects, PieceUnifier, beta}
 use Rattle.unification.proofs.Pairs.{mem→memTerm, memTerm→mem}
-use Rattle.unification.proofs.Same.{alike-absorbed}
+use Rattle.unification.proofs.Representatives.{alike-absorbed}
 
 -- selecting by u, then by v, is selecting by v
 module _ (S : List Term) (P : Term → Term → Type 0) (u v : Sub) (su : Selects S P u) (sv : Selects S P v) where

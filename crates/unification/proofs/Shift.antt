@@ -10,7 +10,7 @@ use Prim.Native.Nat.{ℕ, zero, suc, _-_}
 use lib.Dec.{ltb}
 use lib.ListN.{length}
 use Rattle.covering.specs.Form.{form}
-use Rattle.covering.proofs.Same.{Alike}
+use Rattle.covering.proofs.SameForm.{Alike}
 use Rattle.covering.specs.Lists.{_∈_, all, keep, bind}
 use Rattle.covering.specs.Term.{Term, Atom, Question, terms, Sub, on-term, on-atom, on-question, comp, eqTerm, var, con}
 use Rattle.covering.proofs.Lists.{all-same, map-same, map-append, map-none}
@@ -18,16 +18,18 @@ use Rattle.covering.proofs.Tests.{same-bool, none≢some}
 use Rattle.covering.proofs.Terms.{eqTerm→eq, eq→eqTerm, on-term-var, on-term-comp, on-atom-fixed, on-atom-comp, terms-in}
 use Rattle.covering.proofs.Terms.{terms-out, terms-on}
 use Rattle.covering.specs.Rule.{Rule}
-use Rattle.unification.specs.Classes.{Pair, unify, Kernel, Holds}
+use Rattle.unification.specs.Classes.{Pair, unify, Kernel}
+use Rattle.unification.specs.Classes.{HoldsPairs}
 use Rattle.unification.specs.Choice.{Choice, number, choices, someSent, left, never, placePairs, toHead, pairing}
-use Rattle.unification.specs.Step.{up, move, Below, isVar, memTerm, isUnknown, guarded, safe, valid, rewriting, judge}
+use Rattle.unification.specs.Step.{up, move, Below, memTerm, isUnknown, guarded, safe, valid, rewriting, judge}
+use Rattle.covering.specs.Term.{isVar}
 use Rattle.unification.specs.Step.{step, label, listed, rewritings}
 use Rattle.unification.proofs.Classes.{Least, unify-least, unify-sound, kernel-admissible}
 use Rattle.unification.proofs.Choices.{left-in}
 use Rattle.unification.proofs.Collected.{collect-same}
 use Rattle.unification.proofs.Moved.{moved-term, glue, glue-below, glue-rule, glue-moved}
 use Rattle.unification.proofs.Pairs.{mem→memTerm, memTerm→mem}
-use Rattle.unification.proofs.Same.{judge-same}
+use Rattle.unification.proofs.Representatives.{judge-same}
 use Rattle.unification.proofs.Valid.{near-on}
 
 -- pairs under a renaming
@@ -105,7 +107,7 @@ transfer k k′ r Q ds b σ′ e =
     ρ : Sub
     ρ = shift k k′
 
-    holds : Holds (Kernel (comp σ′ ρ)) (pairing ds Q ((move k r) .head))
+    holds : HoldsPairs (Kernel (comp σ′ ρ)) (pairing ds Q ((move k r) .head))
     holds p m =
         let k₁ =
         subst

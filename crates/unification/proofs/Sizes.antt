@@ -17,7 +17,7 @@ use Rattle.covering.specs.Term.{Term, Atom, Question, terms, Sub, on-term, on-a
 use Rattle.covering.proofs.Fitting.{dedup-few}
 use Rattle.covering.proofs.Lists.{keep-few}
 use Rattle.covering.proofs.Form.{dedup-out, firsts-in, form-numbered}
-use Rattle.covering.proofs.Same.{form-form}
+use Rattle.covering.proofs.SameForm.{form-form}
 use Rattle.covering.proofs.Terms.{var≢con, terms-in, terms-out, terms-append, terms-on}
 use Rattle.covering.specs.Rule.{Rule}
 use Rattle.unification.specs.Choice.{Choice, someSent, left}

@@ -12,7 +12,8 @@ use Rattle.covering.specs.Lists.{_∈_, Distinct}
 use Rattle.covering.specs.Term.{Term, Atom, Question, terms, Sub, on-term, on-atom, on-question, var, con}
 use Rattle.covering.proofs.Terms.{con-inj, atom-path, terms-in, terms-out}
 use Rattle.covering.specs.Rule.{Rule, Unknown}
-use Rattle.unification.specs.Classes.{unify, Kernel, Holds, Equivalence}
+use Rattle.unification.specs.Classes.{unify, Kernel, Equivalence}
+use Rattle.unification.specs.Classes.{HoldsPairs}
 use Rattle.unification.specs.Choice.{Choice, left, sent, pairing}
 use Rattle.unification.specs.Step.{move, Below, guarded, valid, rewriting}
 use Rattle.unification.specs.Published.{scope, Partition, Selects, NonSeparating, PieceUnifier, beta, Together, Puts}
@@ -81,7 +82,7 @@ module _ (k : ℕ) (r : Rule) (Q : Question) (below : Below k Q) (distinct : Dis
     abbrev S : List Term
     S = scope A H
 
-    solved : Holds (Kernel σ) (pairing ds Q (r′ .head))
+    solved : HoldsPairs (Kernel σ) (pairing ds Q (r′ .head))
     solved = unify-sound (pairing ds Q (r′ .head)) var σ found .holds
 
     hit-of : (a : Atom) → a ∈ A → Hit σ ds Q (r′ .head) a

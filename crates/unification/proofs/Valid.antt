@@ -14,7 +14,8 @@ use Rattle.covering.proofs.Lists.{all-in}
 use Rattle.covering.proofs.Terms.{var≢con, eqTerm→eq, eq→eqTerm, on-term-comp, on-atom-same, on-atom-comp}
 use Rattle.covering.specs.Rule.{Rule, Unknown}
 use Rattle.unification.specs.Classes.{Kernel}
-use Rattle.unification.specs.Step.{isVar, memTerm, isUnknown, guarded, safe, valid, rewriting}
+use Rattle.unification.specs.Step.{memTerm, isUnknown, guarded, safe, valid, rewriting}
+use Rattle.covering.specs.Term.{isVar}
 use Rattle.unification.specs.Apply.{Fresh}
 use Rattle.unification.proofs.Pairs.{sends-term, mem→memTerm, memTerm→mem}
 

@@ -40,8 +40,8 @@ abbrev pub Kernel : Sub → Term → Term → Type 0
 Kernel s t u = on-term s t ≡ on-term s u
 
 -- each pair is in one class
-abbrev pub Holds : (Term → Term → Type 0) → List Pair → Type 0
-Holds E ps = (p : Pair) → p ∈ ps → E (p .0) (p .1)
+abbrev pub HoldsPairs : (Term → Term → Type 0) → List Pair → Type 0
+HoldsPairs E ps = (p : Pair) → p ∈ ps → E (p .0) (p .1)
 
 pub record Equivalence (E : Term → Term → Type 0) : Type 0 where
   pub same : (t : Term) → E t t

@@ -7,7 +7,7 @@ use Prim.Native.Nat.{ℕ, _+_, _<_}
 use lib.Dec.{leb}
 use lib.ListN.{length}
 use Rattle.covering.specs.Lists.{_∈_, any, all, keep, head, bind, collect}
-use Rattle.covering.specs.Term.{Term, var, con, Question, Sub, on-term, on-question, terms, eqTerm}
+use Rattle.covering.specs.Term.{Term, var, con, Question, Sub, on-term, on-question, terms, eqTerm, isVar}
 use Rattle.covering.specs.Form.{form}
 use Rattle.covering.specs.Rule.{Rule}
 use Rattle.unification.specs.Classes.{unify}
@@ -23,10 +23,6 @@ move k r = record { body = on-question (up k) (r .body); head = on-question (up 
 -- so k is to be above every variable of the question
 abbrev pub Below : ℕ → Question → Type 0
 Below k A = (n : ℕ) → var n ∈ terms A → n < k
-
-abbrev pub isVar : Term → Bool
-isVar (var n) = true
-isVar (con c) = false
 
 abbrev pub memTerm : Term → List Term → Bool
 memTerm t ts = any (eqTerm t) ts

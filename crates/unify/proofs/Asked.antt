@@ -15,7 +15,8 @@ use lib.ListN.{length, getD, length-append}
 use Rattle.covering.specs.Lists.{_∈_, firstOf, numbers}
 use Rattle.covering.specs.Term.{Term, Atom, Question, on-term, on-atom}
 use Rattle.covering.specs.Record.{desk, atomAt, atomsAt, questionOf, isAtom, areAtoms}
-use Rattle.cover.specs.Buffer.{heldIn, Room}
+use Rattle.cover.specs.Buffer.{heldIn}
+use Rattle.cover.specs.Buffer.{RoomLeft}
 use Rattle.covering.specs.Record.{AtomFits, TermFits}
 use Rattle.cover.proofs.Padded.{held-count, held-length, held-question, held-atoms}
 use Rattle.covering.proofs.RoundTrip.{desk-apart}
@@ -30,27 +31,30 @@ use Rattle.book.specs.declared.Parts.{Parts}
 use Rattle.unify.specs.declared.Found.{Found}
 use Rattle.unification.specs.Choice.{count, mostChoices, atomPairs, toHead}
 use Rattle.unification.specs.Step.{up, move, Below, next}
-use Rattle.unify.specs.Build.{first, firstAt}
+use Rattle.unify.specs.Build.{first}
+use Rattle.unify.specs.Build.{firstByDigit}
 use Rattle.unify.specs.Table.{Table, own, unifyTable, tableBuilder}
-use Rattle.unify.specs.Held.{inBook, ruleIn, ruleOf, classesOf, answered, LeftIn, RuleIn, QuestionIn}
-use Rattle.unify.specs.Held.{ClassesFit, Asks}
+use Rattle.unify.specs.InBytes.{inBook, ruleIn, ruleOf, classesOf, LeftIn, RuleIn, QuestionIn}
+use Rattle.unify.specs.InBytes.{foundOf}
+use Rattle.unify.specs.InBytes.{ClassesFit, Asks}
 use Rattle.unify.proofs.Each.{below, at}
 use Rattle.unify.proofs.Table.{next-table}
-use Rattle.unify.proofs.Entries.{Ends, unify-good, atom-ends}
+use Rattle.unify.proofs.Entries.{unify-good, atom-ends}
+use Rattle.unify.proofs.Entries.{EntriesEnd}
 use Rattle.unification.proofs.Numbers.{count-suc}
 use Rattle.unify.proofs.Prefixes.{digits-hit, prefix-within, head-pairs, digit-skips}
-use Rattle.unify.proofs.Written.{book-desk, book-apart, all-fit, rest-in}
+use Rattle.unify.proofs.RewritingBytes.{book-desk, book-apart, all-fit, rest-in}
 
 -- answers
-pub found-first : (f : ℕ → Option (ℕ × Question)) (d n : ℕ) (r : Found) → 0 < n → r ≡ answered (f d) → r .found ≡ true
-    → r ≡ answered (firstOf f (numbers d n))
+pub found-first : (f : ℕ → Option (ℕ × Question)) (d n : ℕ) (r : Found) → 0 < n → r ≡ foundOf (f d) → r .found ≡ true
+    → r ≡ foundOf (firstOf f (numbers d n))
 found-first f d n r h e t = go (f d) refl (sym (ap (λ x. x .found) e) ∙ t)
   where
-    go : (o : Option (ℕ × Question)) → f d ≡ o → answered o .found ≡ true → r ≡ answered (firstOf f (numbers d n))
+    go : (o : Option (ℕ × Question)) → f d ≡ o → foundOf o .found ≡ true → r ≡ foundOf (firstOf f (numbers d n))
     go none q u = let z : _≡_ {A = ℕ} 0 1 = cc in absurd (omega arith)
-    go (some x) q u = e ∙ ap answered (q ∙ sym (digits-hit f d n h q))
+    go (some x) q u = e ∙ ap foundOf (q ∙ sym (digits-hit f d n h q))
 
-pub missed-none : (o : Option (ℕ × Question)) (r : Found) → r ≡ answered o → r .found ≡ false → o ≡ none
+pub missed-none : (o : Option (ℕ × Question)) (r : Found) → r ≡ foundOf o → r .found ≡ false → o ≡ none
 missed-none none r e t = refl
 missed-none (some x) r e t =
     let u : true ≡ false = sym (ap (λ x. x .found) e) ∙ t in
@@ -93,7 +97,7 @@ left-each : (A : List ℕ) → LeftIn A → (a : Atom) → a ∈ questionOf desk
 left-each A l a m =
     all-fit A 1 (getD A 0 0) (l .atoms) a (subst (λ (q : Question). a ∈ q) (question-at desk A refl) m)
 
-pub left-room : (A : List ℕ) → LeftIn A → getD A 0 0 ≤ 7 → Room desk 56 A
+pub left-room : (A : List ℕ) → LeftIn A → getD A 0 0 ≤ 7 → RoomLeft desk 56 A
 left-room A l few =
     record {
       holds = l .holds;
@@ -165,7 +169,7 @@ joined-fit a b table table′ fa fb f e =
         let r = Memᴰ·of-map (on-term (up 32)) (b .args) m in
         subst (TermFits desk) (r .2) (raised (r .0) (fb .terms (r .0) (r .1)))
 
-    ends : Ends (TermFits desk) (atomPairs a (on-atom (up 32) b))
+    ends : EntriesEnd (TermFits desk) (atomPairs a (on-atom (up 32) b))
     ends =
         atom-ends (TermFits desk) (λ c q. relation c (omega arith)) (relation 1 (omega arith)) a (on-atom (up 32) b)
         (relation (a .rel) (fa .relation)) (relation (b .rel) (fb .relation)) (fits-desk a fa .terms) moved-fit
@@ -219,7 +223,7 @@ module _ (Q B : List ℕ) (p : Parts) (i more number : ℕ) (sent : Bool) (A tab
 module _ (B : List ℕ) (p : Parts) (from number : ℕ) (X : Question) (sent : Bool) (a : Atom) (Q : List ℕ) (j n : ℕ)
     (m : Table) where
   abbrev given : ℕ → Option (ℕ × Question)
-  given d = firstAt (tableBuilder 32 (ruleOf B p) from) number X sent a (atomsAt desk Q j n) m d
+  given d = firstByDigit (tableBuilder 32 (ruleOf B p) from) number X sent a (atomsAt desk Q j n) m d
 
   pub heads-are : length (ruleOf B p .head) ≡ p .heads
   unfolding ruleIn

@@ -18,7 +18,8 @@ use Rattle.covering.specs.Rule.{Rule}
 use Rattle.unification.specs.Classes.{Pair, merge, unify}
 use Rattle.unification.specs.Choice.{Choice, count, number, choices, someSent, left, toHead, pairing}
 use Rattle.unification.specs.Step.{move, judge, stepApart, step, label, listed, from, next}
-use Rattle.unify.specs.Build.{Builder, byDigit, listOf, more, build, first, firstAt, since, builder}
+use Rattle.unify.specs.Build.{Builder, byDigit, listOf, more, build, first, since, builder}
+use Rattle.unify.specs.Build.{firstByDigit}
 use Rattle.unification.proofs.Collected.{gather-same, passing, collect-same, collect-none, collect-keep}
 use Rattle.unification.proofs.Collected.{keep-collect, collect-gather, collect-map, head-gather, firstOf-same}
 use Rattle.unification.proofs.Collected.{firstOf-none}
@@ -138,7 +139,7 @@ module _ {C X : Type 0} (B : Builder C X) where
   first-whole w L b σ = refl
 
   pub first-digits : (w : ℕ) (L : Question) (b : Bool) (a : Atom) (q : Question) (σ : C)
-      → first B w L b (a ∷ q) σ ≡ firstOf (firstAt B w L b a q σ) (numbers 0 (suc (B .heads)))
+      → first B w L b (a ∷ q) σ ≡ firstOf (firstByDigit B w L b a q σ) (numbers 0 (suc (B .heads)))
   unfolding first
   first-digits w L b a q σ = refl
 
@@ -153,7 +154,7 @@ module _ {C X : Type 0} (B : Builder C X) where
   first-head [] w L b σ = head-pushed (cond b (B .verdict w L σ) none)
   first-head (a ∷ q) w L b σ =
       head-gather (listAt w L b a q σ) (numbers 0 (suc (B .heads)))
-      ∙ firstOf-same _ (firstAt B w L b a q σ) (numbers 0 (suc (B .heads)))
+      ∙ firstOf-same _ (firstByDigit B w L b a q σ) (numbers 0 (suc (B .heads)))
       (λ d m. each (λ w′ L′ b′ τ. first-head q w′ L′ b′ τ) d)
     where
       Below : Type 0
@@ -164,7 +165,7 @@ module _ {C X : Type 0} (B : Builder C X) where
       sent-on w′ none below = refl
       sent-on w′ (some τ) below = below w′ L true τ
 
-      each : Below → (d : ℕ) → head (listAt w L b a q σ d) ≡ firstAt B w L b a q σ d
+      each : Below → (d : ℕ) → head (listAt w L b a q σ d) ≡ firstByDigit B w L b a q σ d
       each below zero = below (more B w 0) (L ++ a ∷ []) b σ
       each below (suc e) = sent-on (more B w (suc e)) (B .meet e a σ) below
 
@@ -186,7 +187,7 @@ module _ {C X : Type 0} (B : Builder C X) where
       go true = early w L σ low
       go false = refl
   first-skips start early (a ∷ q) w L b σ h =
-      firstOf-same (firstAt B w L b a q σ) (λ d. none) (numbers 0 (suc (B .heads))) (λ d m.
+      firstOf-same (firstByDigit B w L b a q σ) (λ d. none) (numbers 0 (suc (B .heads))) (λ d m.
       each d (within d (numbers-below 0 (suc (B .heads)) d m))
       (λ w′ L′ b′ τ. first-skips start early q w′ L′ b′ τ))
       ∙ firstOf-none (numbers 0 (suc (B .heads)))
@@ -213,7 +214,7 @@ module _ {C X : Type 0} (B : Builder C X) where
       sent-on w′ none k below = refl
       sent-on w′ (some τ) k below = below w′ L true τ k
 
-      each : (d : ℕ) → suc (more B w d) * c ≤ start → Below → firstAt B w L b a q σ d ≡ none
+      each : (d : ℕ) → suc (more B w d) * c ≤ start → Below → firstByDigit B w L b a q σ d ≡ none
       each zero k below = below (more B w 0) (L ++ a ∷ []) b σ k
       each (suc e) k below = sent-on (more B w (suc e)) (B .meet e a σ) k below
 

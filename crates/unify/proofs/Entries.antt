@@ -19,8 +19,8 @@ module _ (Good : Term → Type 0) where
   abbrev pub Entries : Table → Type 0
   Entries m = (t : Term) → t ∈ m → Good t
 
-  abbrev pub Ends : List Pair → Type 0
-  Ends ps = (p : Pair) → p ∈ ps → Good (p .0) × Good (p .1)
+  abbrev pub EntriesEnd : List Pair → Type 0
+  EntriesEnd ps = (p : Pair) → p ∈ ps → Good (p .0) × Good (p .1)
 
   entry-good : (m : Table) (n : ℕ) (d : Term) → Entries m → Good d → Good (getD m n d)
   entry-good [] n d h g = g
@@ -54,7 +54,7 @@ module _ (Good : Term → Type 0) where
       go true q = subst Entries (Option·some-injective m n q) h
       go false q = absurd (none≢some q)
 
-  pub unify-good : (ps : List Pair) (m n : Table) → Ends ps → Entries m → unifyTable ps m ≡ some n → Entries n
+  pub unify-good : (ps : List Pair) (m n : Table) → EntriesEnd ps → Entries m → unifyTable ps m ≡ some n → Entries n
   unify-good [] m n f h e = subst Entries (Option·some-injective m n e) h
   unify-good (p ∷ ps) m n f h e =
       go (joinTable m (look m (p .0)) (look m (p .1))) refl e (λ k. unify-good ps k n (λ q i. f q (List·Memᴰ·tail i)))
@@ -69,12 +69,12 @@ module _ (Good : Term → Type 0) where
           below k (join-good m _ _ k h (look-good m (p .0) h (ends .0)) (look-good m (p .1) h (ends .1)) q) r
 
   -- the ends of the pairs of two atoms: their terms, and the relations' numbers as constants
-  never-ends : Good (con 0) → Good (con 1) → Ends never
+  never-ends : Good (con 0) → Good (con 1) → EntriesEnd never
   never-ends g h p (List·Memᴰ·head e) = (subst (λ q. Good (q .0)) (sym e) g, subst (λ q. Good (q .1)) (sym e) h)
   never-ends g h p (List·Memᴰ·tail m) = absurd (List·Memᴰ·not-nil m)
 
   place-ends : Good (con 0) → Good (con 1) → (ts us : List Term) → ((t : Term) → t ∈ ts → Good t)
-      → ((t : Term) → t ∈ us → Good t) → Ends (placePairs ts us)
+      → ((t : Term) → t ∈ us → Good t) → EntriesEnd (placePairs ts us)
   place-ends g h [] [] f k p m = absurd (List·Memᴰ·not-nil m)
   place-ends g h [] (u ∷ us) f k p m = never-ends g h p m
   place-ends g h (t ∷ ts) [] f k p m = never-ends g h p m
@@ -86,7 +86,7 @@ module _ (Good : Term → Type 0) where
       place-ends g h ts us (λ x i. f x (List·Memᴰ·tail i)) (λ x i. k x (List·Memᴰ·tail i)) p m
 
   pub atom-ends : ((c : ℕ) → c ≡ 0 → Good (con c)) → Good (con 1) → (a b : Atom) → Good (con (a .rel)) → Good (con (b .rel))
-      → ((t : Term) → t ∈ a .args → Good t) → ((t : Term) → t ∈ b .args → Good t) → Ends (atomPairs a b)
+      → ((t : Term) → t ∈ a .args → Good t) → ((t : Term) → t ∈ b .args → Good t) → EntriesEnd (atomPairs a b)
   atom-ends g h a b ga gb f k p (List·Memᴰ·head e) =
       (subst (λ q. Good (q .0)) (sym e) ga, subst (λ q. Good (q .1)) (sym e) gb)
   atom-ends g h a b ga gb f k p (List·Memᴰ·tail m) = place-ends (g 0 refl) h (a .args) (b .args) f k p m

@@ -8,23 +8,26 @@ use Prim.Native.Nat.{ℕ, _≤_, _<_}
 use native.Mathlib.Omega.{arith}
 use lib.ListN.{length, getD}
 use Rattle.covering.specs.Term.{Question}
-use Rattle.covering.specs.Record.{desk, questionOf, Fits, Sound}
+use Rattle.covering.specs.Record.{desk, questionOf, Fits}
+use Rattle.covering.specs.Record.{SoundRecord}
 use Rattle.covering.proofs.Wider.{Wider}
 use Rattle.covering.proofs.Lengths.{count-atoms, question-count}
 use Rattle.cover.specs.Buffer.{heldIn}
 use Rattle.cover.proofs.Padded.{held-sound, held-written}
 use Rattle.reading.proofs.Fits.{question-record}
-use Rattle.unify.proofs.Written.{book-desk, book-apart}
+use Rattle.unify.proofs.RewritingBytes.{book-desk, book-apart}
 use Rattle.book.specs.declared.Parts.{Parts}
 use Rattle.reading.specs.Header.{rules, atoms}
 use Rattle.reading.specs.Book.{ruleAt, ruleStart, bookOf, layoutOf}
-use Rattle.reading.specs.Verdict.{Sound as SoundBook}
+use Rattle.reading.specs.Verdict.{SoundBook}
 use Rattle.book.specs.Parts.{partsAt}
-use Rattle.reading.proofs.Sound.{Room, sound-header, sound-rule, sound-question, sound-body, sound-head}
+use Rattle.reading.proofs.SoundBook.{sound-header, sound-rule, sound-question, sound-body, sound-head}
+use Rattle.reading.proofs.SoundBook.{BookRoom}
 use Rattle.unify.specs.declared.Found.{Found}
 use Rattle.unification.specs.Choice.{mostChoices}
 use Rattle.unification.specs.Step.{next}
-use Rattle.unify.specs.Held.{inBook, ruleIn, ruleOf, answered, RuleIn, QuestionIn}
+use Rattle.unify.specs.InBytes.{inBook, ruleIn, ruleOf, RuleIn, QuestionIn}
+use Rattle.unify.specs.InBytes.{foundOf}
 use Rattle.unification.proofs.Following.{next-listed, listed-below}
 use Rattle.unify.proofs.Asked.{count-few}
 
@@ -32,7 +35,7 @@ use Rattle.unify.proofs.Asked.{count-few}
 pub held-in : (M : Question) → Fits inBook M → QuestionIn (heldIn desk 56 M)
 held-in M fits = subst QuestionIn (held-written inBook desk book-desk 56 M) own
   where
-    s : Sound inBook (heldIn inBook 56 M)
+    s : SoundRecord inBook (heldIn inBook 56 M)
     s = held-sound inBook 56 M book-apart fits (omega (arith, fits .most))
 
     own : QuestionIn (heldIn inBook 56 M)
@@ -48,7 +51,7 @@ module _ (B : List ℕ) (s : SoundBook B) where
         constants = sound-header B s .few-constants;
       }
 
-  room : Room B inBook
+  room : BookRoom B inBook
   room =
       let k = sound-header B s in
       record {
@@ -96,11 +99,11 @@ module _ (Q B : List ℕ) (p : Parts) (q : QuestionIn Q) (r : RuleIn B p) (from 
   long : length (questionOf desk Q) ≡ getD Q 0 0
   long = question-count desk Q
 
-  pub found-within : (f : Found) → f ≡ answered (next 32 (ruleOf B p) (questionOf desk Q) from) → f .found ≡ true
+  pub found-within : (f : Found) → f ≡ foundOf (next 32 (ruleOf B p) (questionOf desk Q) from) → f .found ≡ true
       → (from ≤ f .choice) × (f .choice < mostChoices)
   found-within f e t = go (next 32 (ruleOf B p) (questionOf desk Q) from) refl e
     where
-      go : (o : Option (ℕ × Question)) → next 32 (ruleOf B p) (questionOf desk Q) from ≡ o → f ≡ answered o
+      go : (o : Option (ℕ × Question)) → next 32 (ruleOf B p) (questionOf desk Q) from ≡ o → f ≡ foundOf o
           → (from ≤ f .choice) × (f .choice < mostChoices)
       go none o a =
           let z : true ≡ false = sym t ∙ ap (λ (x : Found). x .found) a in

@@ -5,15 +5,15 @@ pub mod Build
 pub mod Table
 -- what the code holds in bytes
 pub mod Each
-pub mod Bytes
+pub mod TableBytes
 pub mod Joins
 pub mod Entries
 pub mod Prefixes
-pub mod Written
+pub mod RewritingBytes
 pub mod Asked
 -- the code's tests of terms, and of validity
 pub mod EachTerm
-pub mod Judged
+pub mod ValidTests
 -- a sound book gives what the lister asks for; any two results of a contract are equal
 pub mod FromBook
 pub mod Determined

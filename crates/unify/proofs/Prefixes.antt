@@ -18,7 +18,8 @@ use Rattle.covering.proofs.Places.{atoms-none, atoms-more}
 use Rattle.covering.specs.Rule.{Rule}
 use Rattle.unification.specs.Choice.{count, atomPairs, toHead}
 use Rattle.unification.specs.Step.{up, move, valid, rewriting, judge}
-use Rattle.unify.specs.Build.{first, firstAt, more, since}
+use Rattle.unify.specs.Build.{first, more, since}
+use Rattle.unify.specs.Build.{firstByDigit}
 use Rattle.unify.specs.Table.{Table, unifyTable, tabled, tableBuilder}
 use Rattle.unify.proofs.Build.{first-whole, first-digits}
 use Rattle.unification.proofs.Numbers.{count-suc}
@@ -82,7 +83,7 @@ module _ (k : ℕ) (r : Rule) (n : ℕ) (w : ℕ) (A : Question) (b : Bool) (m :
   pub prefix-digits : (L : Layout) (Q : List ℕ) (i left : ℕ) → 0 < left
       → first (tableBuilder k r n) w A b (atomsAt L Q i left) m
       ≡ firstOf
-      (firstAt (tableBuilder k r n) w A b (atomAt L Q i) (atomsAt L Q (i + size L) (left - 1)) m)
+      (firstByDigit (tableBuilder k r n) w A b (atomAt L Q i) (atomsAt L Q (i + size L) (left - 1)) m)
       (numbers 0 (suc (length (r .head))))
   prefix-digits L Q i left h =
       ap (λ q. first (tableBuilder k r n) w A b q m) (atoms-more L Q i left h)
@@ -91,7 +92,7 @@ module _ (k : ℕ) (r : Rule) (n : ℕ) (w : ℕ) (A : Question) (b : Bool) (m :
   -- a digit all of whose choices come before the start
   pub digit-skips : (a : Atom) (q : Question) (d : ℕ)
       → suc (w * suc (length (r .head)) + d) * count (length (r .head)) (length q) ≤ n
-      → firstAt (tableBuilder k r n) w A b a q m d ≡ none
+      → firstByDigit (tableBuilder k r n) w A b a q m d ≡ none
   digit-skips a q zero h = table-skips k r n q (more (tableBuilder k r n) w 0) (A ++ a ∷ []) b m h
   digit-skips a q (suc e) h = go (unifyTable (toHead ((move k r) .head) e a) m)
     where

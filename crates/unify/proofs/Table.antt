@@ -18,11 +18,12 @@ use Rattle.unification.specs.Classes.{Pair, point, join, unify}
 use Rattle.unification.specs.Choice.{count, never, placePairs, toHead}
 use Rattle.unification.specs.Step.{move, Below, guarded, judge, next}
 use Rattle.unify.specs.Table.{Table, own, look, tabled, joinTable, unifyTable, tableBuilder}
-use Rattle.unify.specs.Build.{Builder, more, first, firstAt, since, builder}
+use Rattle.unify.specs.Build.{Builder, more, first, since, builder}
+use Rattle.unify.specs.Build.{firstByDigit}
 use Rattle.unify.proofs.Build.{first-whole, first-digits, first-skips, since-early, next-built}
 use Rattle.unification.proofs.Collected.{firstOf-same}
 use Rattle.unification.proofs.Moved.{moved-below}
-use Rattle.unification.proofs.Same.{judge-same, alike-equal}
+use Rattle.unification.proofs.Representatives.{judge-same, alike-equal}
 
 -- the variables of a term are below k
 abbrev pub In : ℕ → Term → Type 0
@@ -35,11 +36,11 @@ pub record Agree (k : ℕ) (m : Table) (σ : Sub) : Type 0 where
   pub entry : (n : ℕ) → n < k → getD m n (var n) ≡ σ n
 
 -- both fail, or both yield, the one what holds the other's
-abbrev pub Both : {C D : Type 0} → (C → D → Type 0) → Option C → Option D → Type 0
-Both R none none = Unit {0}
-Both R none (some τ) = ⊥
-Both R (some m) none = ⊥
-Both R (some m) (some τ) = R m τ
+abbrev pub BothTables : {C D : Type 0} → (C → D → Type 0) → Option C → Option D → Type 0
+BothTables R none none = Unit {0}
+BothTables R none (some τ) = ⊥
+BothTables R (some m) none = ⊥
+BothTables R (some m) (some τ) = R m τ
 
 getD-map-in : (f : Term → Term) (m : Table) (n : ℕ) (d : Term) → n < length m → getD (map f m) n d ≡ f (getD m n d)
 getD-map-in f [] n d h = absurd (omega arith)
@@ -61,18 +62,18 @@ module _ (k : ℕ) where
             ∙ ap (point v b) (a .entry n h);
       }
 
-  join-same : (m : Table) (σ : Sub) (a b : Term) → Agree k m σ → Both (Agree k) (joinTable m a b) (join σ a b)
+  join-same : (m : Table) (σ : Sub) (a b : Term) → Agree k m σ → BothTables (Agree k) (joinTable m a b) (join σ a b)
   join-same m σ (var v) (var w) h = map-agrees m σ v (var w) h
   join-same m σ (var v) (con d) h = map-agrees m σ v (con d) h
   join-same m σ (con c) (var w) h = map-agrees m σ w (con c) h
   join-same m σ (con c) (con d) h = go (eqb c d)
     where
-      go : (b : Bool) → Both (Agree k) (cond b (some m) none) (cond b (some σ) none)
+      go : (b : Bool) → BothTables (Agree k) (cond b (some m) none) (cond b (some σ) none)
       go true = h
       go false = tt
 
   pub unify-same : (ps : List Pair) (m : Table) (σ : Sub) → ((p : Pair) → p ∈ ps → In k (p .0) × In k (p .1))
-      → Agree k m σ → Both (Agree k) (unifyTable ps m) (unify ps σ)
+      → Agree k m σ → BothTables (Agree k) (unifyTable ps m) (unify ps σ)
   unify-same [] m σ w h = h
   unify-same (p ∷ ps) m σ w h =
       go (joinTable m (look m (p .0)) (look m (p .1)))
@@ -82,16 +83,16 @@ module _ (k : ℕ) where
       here : In k (p .0) × In k (p .1)
       here = w p (List·Memᴰ·head refl)
 
-      one : Both (Agree k) (joinTable m (look m (p .0)) (look m (p .1))) (join σ (on-term σ (p .0)) (on-term σ (p .1)))
+      one : BothTables (Agree k) (joinTable m (look m (p .0)) (look m (p .1))) (join σ (on-term σ (p .0)) (on-term σ (p .1)))
       one =
           subst₂
-          (λ (a b : Term). Both (Agree k) (joinTable m a b) (join σ (on-term σ (p .0)) (on-term σ (p .1))))
+          (λ (a b : Term). BothTables (Agree k) (joinTable m a b) (join σ (on-term σ (p .0)) (on-term σ (p .1))))
           (sym (look-same m σ h (p .0) (here .0))) (sym (look-same m σ h (p .1) (here .1)))
           (join-same m σ (on-term σ (p .0)) (on-term σ (p .1)) h)
 
-      go : (o : Option Table) (q : Option Sub) → Both (Agree k) o q
-          → ((n : Table) (τ : Sub) → Agree k n τ → Both (Agree k) (unifyTable ps n) (unify ps τ))
-          → Both (Agree k) (bind o (λ n. unifyTable ps n)) (bind q (λ τ. unify ps τ))
+      go : (o : Option Table) (q : Option Sub) → BothTables (Agree k) o q
+          → ((n : Table) (τ : Sub) → Agree k n τ → BothTables (Agree k) (unifyTable ps n) (unify ps τ))
+          → BothTables (Agree k) (bind o (λ n. unifyTable ps n)) (bind q (λ τ. unify ps τ))
       go none none s below = tt
       go none (some τ) s below = absurd s
       go (some n) none s below = absurd s
@@ -122,7 +123,7 @@ judge-table k m σ L r a small =
 -- two builders that go hand in hand on atoms with a property G give the same first result
 module _ {C D X : Type 0} (B : Builder C X) (E : Builder D X) (R : C → D → Type 0) (G : Atom → Type 0)
     (heads-same : B .heads ≡ E .heads)
-    (meets-same : (d : ℕ) (a : Atom) (m : C) (σ : D) → G a → R m σ → Both R (B .meet d a m) (E .meet d a σ))
+    (meets-same : (d : ℕ) (a : Atom) (m : C) (σ : D) → G a → R m σ → BothTables R (B .meet d a m) (E .meet d a σ))
     (verdicts-same : (n : ℕ) (L : Question) (m : C) (σ : D) → ((a : Atom) → a ∈ L → G a) →
     R m σ → B .verdict n L m
     ≡ E .verdict n L σ)
@@ -145,13 +146,13 @@ module _ {C D X : Type 0} (B : Builder C X) (E : Builder D X) (R : C → D → T
         ∙ sym (first-whole E w L b σ)
     first-same (a ∷ q) w L b m σ f g k =
         first-digits B w L b a q m
-        ∙ firstOf-same (firstAt B w L b a q m) (firstAt E w L b a q σ)
+        ∙ firstOf-same (firstByDigit B w L b a q m) (firstByDigit E w L b a q σ)
         (numbers 0 (suc (B .heads)))
         (λ d n.
         each
         (λ w′ L′ b′ m′ σ′ g′ k′. first-same q w′ L′ b′ m′ σ′ (λ c n. f c (List·Memᴰ·tail n)) g′ k′)
         d)
-        ∙ ap (λ (h : ℕ). firstOf (firstAt E w L b a q σ) (numbers 0 (suc h))) heads-same
+        ∙ ap (λ (h : ℕ). firstOf (firstByDigit E w L b a q σ) (numbers 0 (suc h))) heads-same
         ∙ sym (first-digits E w L b a q σ)
       where
         Rest : Type 0
@@ -160,7 +161,7 @@ module _ {C D X : Type 0} (B : Builder C X) (E : Builder D X) (R : C → D → T
             ((c : Atom) → c ∈ L′ → G c) → R m′ σ′ → first B w′ L′ b′ q m′
             ≡ first E w′ L′ b′ q σ′
 
-        sent-on : (d : ℕ) (o : Option C) (p : Option D) → Both R o p → Rest
+        sent-on : (d : ℕ) (o : Option C) (p : Option D) → BothTables R o p → Rest
             → bind o (λ τ. first B (more B w d) L true q τ) ≡ bind p (λ τ. first E (more E w d) L true q τ)
         sent-on d none none x rest = refl
         sent-on d none (some σ′) x rest = absurd x
@@ -168,7 +169,7 @@ module _ {C D X : Type 0} (B : Builder C X) (E : Builder D X) (R : C → D → T
         sent-on d (some m′) (some σ′) x rest =
             rest (more B w d) L true m′ σ′ g x ∙ ap (λ (i : ℕ). first E i L true q σ′) (more-same w d)
 
-        each : Rest → (d : ℕ) → firstAt B w L b a q m d ≡ firstAt E w L b a q σ d
+        each : Rest → (d : ℕ) → firstByDigit B w L b a q m d ≡ firstByDigit E w L b a q σ d
         each rest zero =
             rest (more B w 0) (L ++ a ∷ []) b m σ (also-left L a g (f a (List·Memᴰ·head refl))) k
             ∙ ap (λ (i : ℕ). first E i (L ++ a ∷ []) b q σ) (more-same w 0)
@@ -226,7 +227,7 @@ next-tabled size k r Q n lowQ lowB lowH =
     all-small a m t x = below-in size Q lowQ t (terms-in Q m x)
 
     meets : (d : ℕ) (a : Atom) (m : Table) (σ : Sub) → G a → Agree size m σ
-        → Both (Agree size) (unifyTable (toHead ((move k r) .head) d a) m) (unify (toHead ((move k r) .head) d a) σ)
+        → BothTables (Agree size) (unifyTable (toHead ((move k r) .head) d a) m) (unify (toHead ((move k r) .head) d a) σ)
     meets d a m σ g k′ =
         unify-same size (toHead ((move k r) .head) d a) m σ
         (head-small size ((move k r) .head) d a g (below-in size ((move k r) .head) lowH))

@@ -56,8 +56,8 @@ module _ {C X : Type 0} (B : Builder C X) where
       (numbers 0 (suc (B .heads)))
 
   -- the first that the choices with the digit d for the next atom give
-  abbrev pub firstAt : ℕ → Question → Bool → Atom → Question → C → ℕ → Option X
-  firstAt w L b a q σ d =
+  abbrev pub firstByDigit : ℕ → Question → Bool → Atom → Question → C → ℕ → Option X
+  firstByDigit w L b a q σ d =
       byDigit d (first (more w d) (L ++ a ∷ []) b q σ)
       (λ e. bind (B .meet e a σ) (λ τ. first (more w d) L true q τ))
 

@@ -2,4 +2,4 @@
 -- code holds rules, classes and an answer. What `next` gives is `unification`'s.
 pub mod Build
 pub mod Table
-pub mod Held
+pub mod InBytes

@@ -15,13 +15,15 @@ ghost use Prim.Native.Nat.{_+_, _*_, _-_, _≤_, _<_};
 ghost use lib.ListN.{getD};
 ghost use Rattle.covering.specs.Record.{desk, atomAt, atomsAt, questionOf};
 ghost use Rattle.unification.specs.Step.{move, judge, next as nextOf};
-ghost use Rattle.unify.specs.Build.{first, firstAt, since};
+ghost use Rattle.unify.specs.Build.{first, since};
+ghost use Rattle.unify.specs.Build.{firstByDigit};
 ghost use Rattle.unify.specs.Table.{tabled, tableBuilder};
-ghost use Rattle.unify.specs.Held.{classesOf, ruleOf, answered, RuleIn, QuestionIn, LeftIn, ClassesFit, Asks};
+ghost use Rattle.unify.specs.InBytes.{classesOf, ruleOf, RuleIn, QuestionIn, LeftIn, ClassesFit, Asks};
+ghost use Rattle.unify.specs.InBytes.{foundOf};
 
 // Nothing found.
 fn nothing() -> Found
-    ensures { λ r. ⌜ r ≡ answered none ⌝ }
+    ensures { λ r. ⌜ r ≡ foundOf none ⌝ }
 {
     Found {
         found: false,
@@ -41,7 +43,7 @@ fn judged(
 ) -> Found
     requires { ⌜ RuleIn (now book) rule × LeftIn left × (getD left 0 0 ≤ 7) × ClassesFit table ⌝ }
     ensures { λ r. ⌜ r
-        ≡ answered
+        ≡ foundOf
         (since from number
         (judge (questionOf desk left) (move 32 (ruleOf (now (book .entry)) rule)) (tabled (classesOf table)))) ⌝ }
 {
@@ -78,7 +80,7 @@ fn build(
 ) -> Found
     requires { ⌜ Asks (now question) (now book) rule i more number sent left table ⌝ }
     ensures { λ r. ⌜ r
-        ≡ answered
+        ≡ foundOf
         (first
         (tableBuilder 32 (ruleOf (now (book .entry)) rule) from)
         number
@@ -135,8 +137,8 @@ fn try_digit(
 ) -> Found
     requires { ⌜ Asks (now question) (now book) rule i more number sent left table × (0 < more) × (d ≤ rule .heads) ⌝ }
     ensures { λ r. ⌜ r
-        ≡ answered
-        (firstAt
+        ≡ foundOf
+        (firstByDigit
         (tableBuilder 32 (ruleOf (now (book .entry)) rule) from)
         number
         (questionOf desk left)
@@ -191,7 +193,7 @@ fn try_digit(
 pub fn next(question: &[u8], book: &[u8], rule: Parts, from: usize) -> Found
     requires { ⌜ QuestionIn (now question) × RuleIn (now book) rule ⌝ }
     ensures { λ r. ⌜ r
-        ≡ answered
+        ≡ foundOf
         (nextOf 32 (ruleOf (now (book .entry)) rule) (questionOf desk (now (question .entry))) from) ⌝ }
 {
     let n = question[0] as usize;

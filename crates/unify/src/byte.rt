@@ -5,7 +5,7 @@ ghost use Rattle.covering.specs.Term.{on-term};
 ghost use Rattle.covering.specs.Record.{termOf};
 ghost use Rattle.unification.specs.Step.{up};
 ghost use Rattle.unify.specs.Table.{look};
-ghost use Rattle.unify.specs.Held.{classesOf};
+ghost use Rattle.unify.specs.InBytes.{classesOf};
 
 // A rule's term, its variable moved up by 32.
 pub fn moved(u: u8) -> u8

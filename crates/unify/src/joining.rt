@@ -14,7 +14,8 @@ ghost use Rattle.unification.specs.Classes.{point};
 ghost use Rattle.unification.specs.Choice.{placePairs, atomPairs};
 ghost use Rattle.unification.specs.Step.{up};
 ghost use Rattle.unify.specs.Table.{own, joinTable, unifyTable};
-ghost use Rattle.unify.specs.Held.{inBook, classesOf, said};
+ghost use Rattle.unify.specs.InBytes.{inBook, classesOf};
+ghost use Rattle.unify.specs.InBytes.{joinedTable};
 
 const OWN: [u8; 64] = [
     0,
@@ -117,7 +118,7 @@ fn replaced(table: [u8; 64], v: u8, b: u8) -> [u8; 64]
 
 // The classes that a and b stand for become one, a constant standing for it; two constants are never one.
 fn join(table: [u8; 64], a: u8, b: u8) -> Joined
-    ensures { λ r. ⌜ said r ≡ joinTable (classesOf table) (termOf a) (termOf b) ⌝ }
+    ensures { λ r. ⌜ joinedTable r ≡ joinTable (classesOf table) (termOf a) (termOf b) ⌝ }
 {
     if a == b {
         return Joined {
@@ -149,7 +150,7 @@ fn join(table: [u8; 64], a: u8, b: u8) -> Joined
 // with its own.
 fn join_places(question: &[u8], book: &[u8], i: usize, k: usize, table: [u8; 64]) -> Joined
     requires { ⌜ (i + 4 ≤ length (now question)) × (k + 4 ≤ length (now book)) × T (usedFirst inBook (now book) k 4) ⌝ }
-    ensures { λ r. ⌜ said r
+    ensures { λ r. ⌜ joinedTable r
         ≡ unifyTable
         (placePairs (argsAt (now (question .entry)) i 4) (map (on-term (up 32)) (argsAt (now (book .entry)) k 4)))
         (classesOf table) ⌝ }
@@ -188,7 +189,7 @@ fn join_places(question: &[u8], book: &[u8], i: usize, k: usize, table: [u8; 64]
 // The question atom at i is put on the head atom at k of the book.
 pub fn join_atoms(question: &[u8], book: &[u8], i: usize, k: usize, table: [u8; 64]) -> Joined
     requires { ⌜ (i + 5 ≤ length (now question)) × (k + 5 ≤ length (now book)) × T (isAtom inBook (now book) k) ⌝ }
-    ensures { λ r. ⌜ said r
+    ensures { λ r. ⌜ joinedTable r
         ≡ unifyTable
         (atomPairs (atomAt desk (now (question .entry)) i) (on-atom (up 32) (atomAt desk (now (book .entry)) k)))
         (classesOf table) ⌝ }

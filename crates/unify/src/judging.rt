@@ -14,7 +14,7 @@ ghost use Rattle.covering.specs.Record.{desk, termOf, argsAt, atomsAt, usedFirs
 ghost use Rattle.cover.specs.Buffer.{AtomsIn};
 ghost use Rattle.unification.specs.Step.{up, move, memTerm, isUnknown, guarded, safe, valid};
 ghost use Rattle.unify.specs.Table.{tabled};
-ghost use Rattle.unify.specs.Held.{inBook, ruleIn, classesOf};
+ghost use Rattle.unify.specs.InBytes.{inBook, ruleIn, classesOf};
 
 // Whether the term t stands in one of the used places from i on.
 fn in_places(s: &[u8], i: usize, t: u8) -> bool

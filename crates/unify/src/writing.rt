@@ -13,7 +13,7 @@ ghost use Rattle.cover.specs.Buffer.{heldIn, AtomsIn};
 ghost use Rattle.cover.specs.Building.{subOf};
 ghost use Rattle.unification.specs.Step.{move, rewriting as rewritingOf};
 ghost use Rattle.unify.specs.Table.{tabled};
-ghost use Rattle.unify.specs.Held.{inBook, ruleOf, classesOf, RuleIn, LeftIn, ClassesFit, Filling, UpperHalf};
+ghost use Rattle.unify.specs.InBytes.{inBook, ruleOf, classesOf, RuleIn, LeftIn, ClassesFit, Filling, UpperHalf};
 use book::Parts;
 
 // What stands for the rule's variables: the upper half of the classes, moved down by 32.

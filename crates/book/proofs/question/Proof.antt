@@ -15,7 +15,7 @@ use Rattle.cover.proofs.Padded.{copied-held}
 use Rattle.reading.specs.declared.Header.{Header}
 use Rattle.reading.specs.Word.{byte}
 use Rattle.reading.specs.Header.{atoms, questionAt}
-use Rattle.reading.proofs.Sound.{sound-header, sound-long, sound-question, sound-atoms, desk-room}
+use Rattle.reading.proofs.SoundBook.{sound-header, sound-long, sound-question, sound-atoms, desk-room}
 use Rattle.reading.proofs.Reading.{book-question}
 use Rattle.book.proofs.question.Statement.{statement}
 use Rattle.book.proofs.question.Tie as tie

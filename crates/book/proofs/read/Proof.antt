@@ -6,7 +6,8 @@ use mathlib.Core.List.{List}
 use Prim.Native.Nat.{ℕ}
 use Rattle.reading.specs.declared.Header.{Header}
 use Rattle.reading.specs.Header.{relations, constants, rules, atoms, allowed, relationsAt, rulesAt, questionAt}
-use Rattle.reading.specs.Header.{total, headerOf}
+use Rattle.reading.specs.Header.{headerOf}
+use Rattle.reading.specs.Header.{totalWord}
 use Rattle.book.proofs.read.Statement.{statement}
 use Rattle.book.proofs.read.Tie as tie
 
@@ -39,7 +40,7 @@ word-requires-9 c κs = search needs
 
 -- the header of the nine words that were read
 header-is : (B : List ℕ) {p c r n l t s q w : ℕ} → p ≡ relations B → c ≡ constants B → r ≡ rules B → n ≡ atoms B
-    → l ≡ allowed B → t ≡ relationsAt B → s ≡ rulesAt B → q ≡ questionAt B → w ≡ total B
+    → l ≡ allowed B → t ≡ relationsAt B → s ≡ rulesAt B → q ≡ questionAt B → w ≡ totalWord B
     → _≡_ {A = Header}
     (record {
       relations = p;

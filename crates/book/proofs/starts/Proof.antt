@@ -9,7 +9,7 @@ use Rattle.reading.specs.Header.{rules}
 use Rattle.reading.specs.Book.{ruleEnd, rulesStart, ruleStart}
 use Rattle.reading.proofs.After.{after-zero, after-next}
 use Rattle.book.proofs.Stores.{stored-upto, stored-other, first-only, others-zero}
-use Rattle.reading.proofs.Sound.{SoundRule, sound-rule, sound-header, sound-long}
+use Rattle.reading.proofs.SoundBook.{SoundRule, sound-rule, sound-header, sound-long}
 use Rattle.book.proofs.starts.Statement.{statement}
 use Rattle.book.proofs.starts.Tie as tie
 

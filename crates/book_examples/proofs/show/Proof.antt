@@ -6,8 +6,8 @@ use Prim.Native.Nat.{_-_, _≤_, _<_}
 use Rattle.reading.specs.declared.Header.{Header}
 use Rattle.reading.specs.declared.Refusal.{Refusal}
 use Rattle.reading.specs.Header.{rules}
-use Rattle.reading.specs.Verdict.{Sound}
-use Rattle.reading.proofs.Sound.{sound-long, sound-header, sound-rule}
+use Rattle.reading.specs.Verdict.{SoundBook}
+use Rattle.reading.proofs.SoundBook.{sound-long, sound-header, sound-rule}
 use Rattle.book_examples.proofs.show.Statement.{statement}
 use Rattle.book_examples.proofs.show.Tie as tie
 
@@ -18,7 +18,7 @@ abbrev μ-loop : tie.MeasureT-loop
 μ-loop book n at k₀ t8 k = n - k
 
 -- what the callers of the readers show: that the book was not refused
-is-sound : (c : tie.Else1 Inv-loop μ-loop) → Sound (c .before .before .before .before .args .book .now)
+is-sound : (c : tie.Else1 Inv-loop μ-loop) → SoundBook (c .before .before .before .before .args .book .now)
 is-sound c = ap (λ (r : Refusal). r .number) (sym (c .before .before .check .ensures)) ∙ c .if1 .left
 
 count : (c : tie.After-read Inv-loop μ-loop)

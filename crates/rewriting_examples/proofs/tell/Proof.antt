@@ -6,16 +6,16 @@ use Prim.Native.Nat.{_<_}
 use Rattle.reading.specs.declared.Header.{Header}
 use Rattle.reading.specs.declared.Refusal.{Refusal}
 use Rattle.reading.specs.Header.{rules}
-use Rattle.reading.specs.Verdict.{Sound}
+use Rattle.reading.specs.Verdict.{SoundBook}
 use Rattle.book.specs.Parts.{partsAt}
-use Rattle.reading.proofs.Sound.{sound-long, sound-header, sound-rule}
-use Rattle.unify.specs.Held.{RuleIn}
+use Rattle.reading.proofs.SoundBook.{sound-long, sound-header, sound-rule}
+use Rattle.unify.specs.InBytes.{RuleIn}
 use Rattle.unify.proofs.FromBook.{rule-in, question-in}
 use Rattle.rewriting_examples.proofs.tell.Statement.{statement}
 use Rattle.rewriting_examples.proofs.tell.Tie as tie
 
 -- what the callers of the readers show: that the book was not refused, and has a rule
-is-sound : (c : tie.Else1) → Sound (c .before .before .before .before .before .before .before .before .args .book .now)
+is-sound : (c : tie.Else1) → SoundBook (c .before .before .before .before .before .before .before .before .args .book .now)
 is-sound c = ap (λ (r : Refusal). r .number) (sym (c .before .before .check .ensures)) ∙ c .if1 .left
 
 has-rule : (c : tie.Else2)

@@ -10,7 +10,7 @@ use Rattle.reading.specs.Word.{byte}
 use Rattle.reading.specs.Header.{inside, bodyRange, headRange}
 use Rattle.reading.specs.Book.{ruleEnd}
 use Rattle.reading.specs.Verdict.{ruleRight}
-use Rattle.book.proofs.Steps.{rule-short}
+use Rattle.book.proofs.JudgingSteps.{rule-short}
 use Rattle.book.proofs.judge.rule_end.Statement.{statement}
 use Rattle.book.proofs.judge.rule_end.Tie as tie
 

@@ -5,7 +5,7 @@ use Prim.Native.Nat.{ℕ, _+_, _<_}
 use Rattle.reading.specs.Word.{byte}
 use Rattle.reading.specs.Header.{relations}
 use Rattle.reading.specs.Book.{placesOf}
-use Rattle.book.proofs.Steps.{relation-wrong, relation-right}
+use Rattle.book.proofs.JudgingSteps.{relation-wrong, relation-right}
 use mathlib.Core.Path.{_≡_, sym, _∙_, ap}
 use Rattle.reading.specs.Verdict.{told, wrongPlace}
 use Rattle.book.proofs.judge.wrong_in_atom.Statement.{statement}

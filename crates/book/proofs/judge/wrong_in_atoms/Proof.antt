@@ -6,7 +6,7 @@ use Prim.Native.Nat.{_+_, _*_, _-_, _≤_}
 use native.Mathlib.Nat.{sub-zero}
 use lib.ListN.{length}
 use Rattle.reading.specs.Verdict.{told, wrongInAtom, wrongInAtoms}
-use Rattle.book.proofs.Steps.{same-number, else-found, else-next, atoms-end, atoms-more}
+use Rattle.book.proofs.JudgingSteps.{same-number, else-found, else-next, atoms-end, atoms-more}
 use Rattle.book.proofs.judge.wrong_in_atoms.Statement.{statement}
 use Rattle.book.proofs.judge.wrong_in_atoms.Tie as tie
 

@@ -9,7 +9,7 @@ use Rattle.reading.specs.Word.{byte}
 use Rattle.reading.specs.Header.{constants}
 use Rattle.reading.specs.Refusals.{placeAllowed}
 use Rattle.reading.specs.Verdict.{told, wrongPlace}
-use Rattle.book.proofs.Steps.{place-end, place-wrong, place-right}
+use Rattle.book.proofs.JudgingSteps.{place-end, place-wrong, place-right}
 use Rattle.book.proofs.judge.wrong_place.Statement.{statement}
 use Rattle.book.proofs.judge.wrong_place.Tie as tie
 

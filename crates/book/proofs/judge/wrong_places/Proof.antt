@@ -7,9 +7,10 @@ use Prim.Native.Nat.{ℕ, _+_, _-_, _≤_}
 use mathlib.Core.Bool.{true, false}
 use native.Mathlib.Nat.{sub-zero}
 use Rattle.reading.specs.Word.{byte}
-use Rattle.reading.specs.Header.{within, inside, placesRange}
+use Rattle.reading.specs.Header.{inside, placesRange}
+use Rattle.reading.specs.Header.{inBounds}
 use Rattle.reading.specs.Verdict.{told, wrongPlaces}
-use Rattle.book.proofs.Steps.{places-end, places-wrong, places-right}
+use Rattle.book.proofs.JudgingSteps.{places-end, places-wrong, places-right}
 use Rattle.book.proofs.judge.wrong_places.Statement.{statement}
 use Rattle.book.proofs.judge.wrong_places.Tie as tie
 
@@ -39,7 +40,7 @@ returns c =
     let start = c .before .before .before .before .before .before .before in
     let here = c .before .before .before .before .before .loop in
     let e : inside placesRange (byte (start .args .book .now) (18 + here .k)) ≡ false =
-    ap (λ (x : ℕ). within 1 4 x) (sym (c .before .before .wide .ensures .0))
+    ap (λ (x : ℕ). inBounds 1 4 x) (sym (c .before .before .wide .ensures .0))
     ∙ sym (c .before .within .ensures)
     ∙ not-true _ (c .if1 .taken) in
     ap (told 5) (sym (here .inv .1 ∙ places-wrong _ _ _ _ (c .before .before .before .before .loop-test .taken) e))
@@ -55,7 +56,7 @@ loop-again c =
     let start = c .before .before .before .before .before .before .before in
     let here = c .before .before .before .before .before .loop in
     let e : inside placesRange (byte (start .args .book .now) (18 + here .k)) ≡ true =
-    ap (λ (x : ℕ). within 1 4 x) (sym (c .before .before .wide .ensures .0))
+    ap (λ (x : ℕ). inBounds 1 4 x) (sym (c .before .before .wide .ensures .0))
     ∙ sym (c .before .within .ensures)
     ∙ not-false _ (c .if1 .left) in
     let d : 18 + here .k + 1 ≡ 18 + (here .k + 1) = omega arith in (

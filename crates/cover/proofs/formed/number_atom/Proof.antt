@@ -7,7 +7,8 @@ use mathlib.Core.List.{List}
 use Prim.Native.Nat.{ℕ, _+_, _-_, _≤_}
 use lib.Dec.{T}
 use Rattle.covering.specs.Record.{desk, argsAt, atomAt, usedFirst}
-use Rattle.cover.specs.Building.{allSeen, Numbered}
+use Rattle.cover.specs.Building.{allSeen}
+use Rattle.cover.specs.Building.{NumberTable}
 use Rattle.covering.proofs.Bytes.{used-more, term-constant, atom-used}
 use Rattle.cover.proofs.Renaming.{seen-end, seen-more, seen-done}
 use Rattle.cover.proofs.formed.number_atom.Statement.{statement}
@@ -19,9 +20,9 @@ Inv-loop count from at known₀ given₀ j₀ known given j =
     × (given ≤ given₀ + j)
     × T (usedFirst desk from (at + 1 + j) (4 - j))
     × ((S : List ℕ)
-    → Numbered S known₀ given₀
+    → NumberTable S known₀ given₀
     → (M : List ℕ)
-    × Numbered M known given
+    × NumberTable M known given
     × (allSeen S (argsAt from (at + 1) 4) ≡ allSeen M (argsAt from (at + 1 + j) (4 - j))))
 
 abbrev μ-loop : tie.MeasureT-loop
@@ -52,7 +53,7 @@ returns c =
       λ S k.
           let r = l .loop .inv .3 S k in
           let all = r .2 ∙ seen-end _ _ _ 4 (omega arith) (r .0) (c .if1 .taken) in
-          subst (λ M. Numbered M (l .loop .known) (l .loop .given)) (sym all) (r .1),
+          subst (λ M. NumberTable M (l .loop .known) (l .loop .given)) (sym all) (r .1),
     )
 
 number-term-requires : tie.Need-number-term-requires Inv-loop μ-loop
@@ -88,7 +89,7 @@ returns-2 c =
       λ S k.
           let r = l .loop .inv .3 S k in
           let all = r .2 ∙ seen-done _ _ _ (r .0) (omega arith) in
-          subst (λ M. Numbered M (l .loop .known) (l .loop .given)) (sym all) (r .1),
+          subst (λ M. NumberTable M (l .loop .known) (l .loop .given)) (sym all) (r .1),
     )
 
 pub number-atom-spec : {M : Type 1} → statement M

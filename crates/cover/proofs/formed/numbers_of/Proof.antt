@@ -9,7 +9,8 @@ use Rattle.covering.specs.Term.{terms}
 use Rattle.covering.specs.Form.{firsts}
 use Rattle.covering.specs.Record.{desk, atomsAt, questionOf}
 use Rattle.cover.specs.Buffer.{AtomsIn}
-use Rattle.cover.specs.Building.{allSeen, newNumber, Numbered}
+use Rattle.cover.specs.Building.{allSeen, newNumber}
+use Rattle.cover.specs.Building.{NumberTable}
 use Rattle.cover.proofs.Within.{sound-in}
 use Rattle.cover.proofs.Leftward.{firsts-leftward}
 use Rattle.cover.proofs.Renaming.{numbered-none}
@@ -22,7 +23,7 @@ Inv-loop member table₀ count₀ at₀ left₀ table count at left =
     AtomsIn desk member at left
     × (count + left * 4 ≤ 44)
     × ((S : List ℕ)
-    × Numbered S table count
+    × NumberTable S table count
     × (firsts (terms (questionOf desk member)) ≡ allSeen S (terms (atomsAt desk member at left))))
 
 abbrev μ-loop : tie.MeasureT-loop

@@ -4,7 +4,8 @@ use mathlib.Core.Path.{refl, sym, _∙_}
 use native.Mathlib.Omega.{arith}
 use Rattle.covering.specs.Record.{desk}
 use Rattle.covering.proofs.Bytes.{atom-used}
-use Rattle.cover.proofs.Maps.{said-no, atoms-apart, atoms-meet}
+use Rattle.cover.proofs.Maps.{atoms-apart, atoms-meet}
+use Rattle.cover.proofs.Maps.{placed-no}
 use Rattle.cover.proofs.place.place_atom.Statement.{statement}
 use Rattle.cover.proofs.place.place_atom.Tie as tie
 
@@ -15,7 +16,7 @@ shared-slice-read-if1-2 : tie.Need-shared-slice-read-if1-2
 shared-slice-read-if1-2 c = search needs
 
 returns : tie.Need-returns
-returns c = said-no _ refl ∙ sym (atoms-apart desk _ _ _ _ _ (c .if1 .taken))
+returns c = placed-no _ refl ∙ sym (atoms-apart desk _ _ _ _ _ (c .if1 .taken))
 
 add-place-terms : tie.Need-add-place-terms
 add-place-terms c = search needs

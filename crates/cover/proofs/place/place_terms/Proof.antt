@@ -8,9 +8,11 @@ use borrow.Author.Tests.{not-true, not-false}
 use lib.Dec.{T}
 use Rattle.covering.specs.Search.{placeTerms}
 use Rattle.covering.specs.Record.{desk, argsAt, usedFirst}
-use Rattle.cover.specs.Held.{partOf, said}
+use Rattle.cover.specs.HeldMap.{partOf}
+use Rattle.cover.specs.HeldMap.{placedMap}
 use Rattle.covering.proofs.Bytes.{used-more, term-constant}
-use Rattle.cover.proofs.Maps.{said-yes, said-no, places-end, places-short, places-clash, places-next}
+use Rattle.cover.proofs.Maps.{places-end, places-short, places-clash, places-next}
+use Rattle.cover.proofs.Maps.{placed-yes, placed-no}
 use Rattle.cover.proofs.Maps.{places-done}
 use Rattle.cover.proofs.place.place_terms.Statement.{statement}
 use Rattle.cover.proofs.place.place_terms.Tie as tie
@@ -43,7 +45,7 @@ shared-slice-read-u : tie.Need-shared-slice-read-u Inv-loop μ-loop
 shared-slice-read-u c = omega arith
 
 returns : tie.Need-returns Inv-loop μ-loop
-unfolding said
+unfolding placedMap
 returns c =
     let l = c .before .before .before .before in
     let a = l .before .before .before .args in
@@ -55,7 +57,7 @@ returns-2 : tie.Need-returns-2 Inv-loop μ-loop
 returns-2 c =
     let l = c .before .before .before .before .before in
     let a = l .before .before .before .args in
-    said-no _ refl
+    placed-no _ refl
     ∙ sym
     (l .loop .inv .2
     ∙ places-short (a .first .now) (a .second .now) (a .i) (a .k) (l .loop .j) 4 (omega arith) _ (c .before .if1 .left)
@@ -74,12 +76,12 @@ returns-3 c =
     let l = c .before .before .before .before .before .before .before in
     let a = l .before .before .before .args in
     let p = c .before .place-term in
-    said-no (p .result) (not-true _ (c .if3 .taken))
+    placed-no (p .result) (not-true _ (c .if3 .taken))
     ∙ sym
     (l .loop .inv .2
     ∙ places-clash (a .first .now) (a .second .now) (a .i) (a .k) (l .loop .j) 4 (omega arith) _
     (c .before .before .before .if1 .left) (c .before .before .if2 .left)
-    (sym (p .ensures) ∙ said-no (p .result) (not-true _ (c .if3 .taken))))
+    (sym (p .ensures) ∙ placed-no (p .result) (not-true _ (c .if3 .taken))))
 
 add-j : tie.Need-add-j Inv-loop μ-loop
 add-j c = omega arith
@@ -98,13 +100,13 @@ loop-again c =
       l .loop .inv .2
           ∙ places-next (a .first .now) (a .second .now) (a .i) (a .k) (l .loop .j) 4 (omega arith) _ used
           (c .before .before .before .if2 .left)
-          (sym (p .ensures) ∙ said-yes (p .result) (not-false _ (c .before .if3 .left))),
+          (sym (p .ensures) ∙ placed-yes (p .result) (not-false _ (c .before .if3 .left))),
     )
 
 returns-4 : tie.Need-returns-4 Inv-loop μ-loop
 returns-4 c =
     let l = c .before in
-    said-yes _ refl ∙ sym (l .loop .inv .2 ∙ places-done _ _ _ _ _ _ (omega arith))
+    placed-yes _ refl ∙ sym (l .loop .inv .2 ∙ places-done _ _ _ _ _ _ (omega arith))
 
 pub place-terms-spec : {M : Type 1} → statement M
 place-terms-spec =

@@ -20,9 +20,9 @@ use Rattle.covering.specs.Search.{findMap}
 use Rattle.covering.specs.Record.{desk}
 use Rattle.covering.proofs.Tests.{false→no}
 use Rattle.cover.proofs.Ahead.{dead-end}
-use Rattle.cover.proofs.Maps.{said-yes, said-no}
-use Rattle.cover.proofs.Steps.{search-done, search-next, tried-none, tried-hit, tried-miss, then-placed}
-use Rattle.cover.proofs.Steps.{then-not}
+use Rattle.cover.proofs.Maps.{placed-yes, placed-no}
+use Rattle.cover.proofs.SearchSteps.{search-done, search-next, tried-none, tried-hit, tried-miss, then-placed}
+use Rattle.cover.proofs.SearchSteps.{then-not}
 use Rattle.cover.proofs.Within.{in-first, in-rest}
 use Rattle.cover.proofs.place.place_atom.Reads as place-atom-reads
 use Rattle.cover.proofs.search.all_have.Reads as all-have-reads
@@ -69,7 +69,7 @@ try-candidate-calls t = (
 )
 
 place-next-returns : (t : ℕ) → place-next-lts.Need-returns (place-next-calls t) (place-next-at t) place-next.Post
-place-next-returns t c = said-yes _ refl ∙ sym (search-done desk _ _ _ _ _ (c .if1 .taken))
+place-next-returns t c = placed-yes _ refl ∙ sym (search-done desk _ _ _ _ _ (c .if1 .taken))
 
 place-next-all-have-requires : (t : ℕ)
     → place-next-lts.Need-all-have-requires (place-next-calls t) (place-next-at t) place-next.Post
@@ -77,7 +77,7 @@ place-next-all-have-requires t c κs = let pre = c .before .before .before .pre 
 
 place-next-returns-2 : (t : ℕ) → place-next-lts.Need-returns-2 (place-next-calls t) (place-next-at t) place-next.Post
 place-next-returns-2 t c =
-    said-no _ refl
+    placed-no _ refl
     ∙ sym (dead-end _ _ _ (false→no _ (sym (c .before .all-have .ensures) ∙ not-true _ (c .if2 .taken))))
 
 place-next-sub-try-candidate : (t : ℕ)
@@ -97,7 +97,7 @@ place-next-returns-3 t c = c .try-candidate .ensures ∙ sym (search-next desk _
 
 try-candidate-returns : (t : ℕ)
     → try-candidate-lts.Need-returns (try-candidate-calls t) (try-candidate-at t) try-candidate.Post
-try-candidate-returns t c = said-no _ refl ∙ sym (tried-none desk _ _ _ _ _ _ _ (c .if1 .taken))
+try-candidate-returns t c = placed-no _ refl ∙ sym (tried-none desk _ _ _ _ _ _ _ (c .if1 .taken))
 
 try-candidate-place-atom-requires : (t : ℕ)
     → try-candidate-lts.Need-place-atom-requires (try-candidate-calls t) (try-candidate-at t) try-candidate.Post
@@ -120,11 +120,11 @@ try-candidate-returns-2 : (t : ℕ)
 try-candidate-returns-2 t c =
     let p = c .before .before .before .before .place-atom in
     let q = c .before .place-next in
-    let placed = sym (p .ensures) ∙ said-yes (p .result) (c .before .before .before .if2 .taken) in
-    said-yes (q .result) (c .if3 .taken)
+    let placed = sym (p .ensures) ∙ placed-yes (p .result) (c .before .before .before .if2 .taken) in
+    placed-yes (q .result) (c .if3 .taken)
     ∙ sym
     (tried-hit desk _ _ _ _ _ _ _ (omega arith)
-    (then-placed (findMap _ _) placed ∙ sym (q .ensures) ∙ said-yes (q .result) (c .if3 .taken)))
+    (then-placed (findMap _ _) placed ∙ sym (q .ensures) ∙ placed-yes (q .result) (c .if3 .taken)))
 
 try-candidate-add-try-candidate : (t : ℕ)
     → try-candidate-lts.Need-add-try-candidate (try-candidate-calls t) (try-candidate-at t) try-candidate.Post
@@ -148,10 +148,10 @@ try-candidate-returns-3 t c =
     ∙ sym
     (tried-miss desk _ _ _ _ _ _ _ (omega arith)
     (⊎-elim
-    (λ w. then-placed (findMap _ _) (sym (p .ensures) ∙ said-yes (p .result) (w .0 .taken))
+    (λ w. then-placed (findMap _ _) (sym (p .ensures) ∙ placed-yes (p .result) (w .0 .taken))
     ∙ sym (w .2 .ensures)
-    ∙ said-no (w .2 .result) (w .3 .left))
-    (λ w. then-not (findMap _ _) (sym (p .ensures) ∙ said-no (p .result) (w .left)))
+    ∙ placed-no (w .2 .result) (w .3 .left))
+    (λ w. then-not (findMap _ _) (sym (p .ensures) ∙ placed-no (p .result) (w .left)))
     (c .before .if2 .came)))
 
 pub +place-next+try-candidate-spec : {M : Type 1} → statement M

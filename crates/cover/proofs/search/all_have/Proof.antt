@@ -5,10 +5,10 @@ use mathlib.Core.Path.{_≡_, refl, sym, _∙_}
 use borrow.Author.Tests.{not-true, not-false}
 use Rattle.covering.specs.Lists.{all}
 use Rattle.covering.specs.Record.{desk, atomsAt}
-use Rattle.cover.specs.Held.{partOf}
+use Rattle.cover.specs.HeldMap.{partOf}
 use Rattle.cover.specs.Buffer.{AtomsIn}
 use Rattle.cover.specs.Candidates.{hasCandidate}
-use Rattle.cover.proofs.Steps.{each-none, each-fails, each-passes}
+use Rattle.cover.proofs.SearchSteps.{each-none, each-fails, each-passes}
 use Rattle.covering.proofs.Places.{sound-more}
 use Rattle.cover.proofs.search.all_have.Statement.{statement}
 use Rattle.cover.proofs.search.all_have.Tie as tie

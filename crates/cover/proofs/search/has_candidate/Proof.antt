@@ -5,10 +5,10 @@ use mathlib.Core.Path.{_≡_, refl, sym, _∙_}
 use Prim.Native.Nat.{_+_, _*_, _≤_}
 use lib.ListN.{length}
 use Rattle.covering.specs.Record.{desk, atomAt, atomsAt}
-use Rattle.cover.specs.Held.{partOf}
+use Rattle.cover.specs.HeldMap.{partOf}
 use Rattle.cover.specs.Candidates.{hasCandidate}
-use Rattle.cover.proofs.Maps.{said-yes, said-no}
-use Rattle.cover.proofs.Steps.{candidate-none, candidate-hit, candidate-miss}
+use Rattle.cover.proofs.Maps.{placed-yes, placed-no}
+use Rattle.cover.proofs.SearchSteps.{candidate-none, candidate-hit, candidate-miss}
 use Rattle.cover.proofs.search.has_candidate.Statement.{statement}
 use Rattle.cover.proofs.search.has_candidate.Tie as tie
 
@@ -32,7 +32,7 @@ returns c =
     let p = c .before .place-atom in
     sym
     (c .before .before .before .loop .inv .1
-    ∙ candidate-hit desk _ _ _ _ _ (omega arith) (sym (p .ensures) ∙ said-yes (p .result) (c .if1 .taken)))
+    ∙ candidate-hit desk _ _ _ _ _ (omega arith) (sym (p .ensures) ∙ placed-yes (p .result) (c .if1 .taken)))
 
 add-at : tie.Need-add-at Inv-loop μ-loop
 add-at c = omega arith
@@ -48,7 +48,7 @@ loop-again c =
     let p = c .before .place-atom in (
       omega arith,
       c .before .before .before .loop .inv .1
-          ∙ candidate-miss desk _ _ _ _ _ (omega arith) (sym (p .ensures) ∙ said-no (p .result) (c .if1 .left)),
+          ∙ candidate-miss desk _ _ _ _ _ (omega arith) (sym (p .ensures) ∙ placed-no (p .result) (c .if1 .left)),
     )
 
 returns-2 : tie.Need-returns-2 Inv-loop μ-loop

@@ -8,7 +8,7 @@ use Rattle.covering.specs.Term.{Question}
 use Rattle.covering.specs.Search.{covers}
 use Rattle.covering.specs.Record.{desk, questionOf, Fits}
 use Rattle.exploration.specs.Union.{membersFrom, firstAt}
-use Rattle.explore.specs.Held.{beforeCovering}
+use Rattle.explore.specs.WorkingArray.{beforeCovering}
 use Rattle.covering.proofs.Lengths.{question-count}
 use Rattle.covering.proofs.Begun.{begun-long}
 use Rattle.explore.proofs.Records.{record-fits}

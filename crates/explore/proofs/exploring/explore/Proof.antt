@@ -11,15 +11,16 @@ use lib.ListN.{length, drop}
 use Rattle.covering.specs.Lists.{_∈_}
 use Rattle.covering.specs.Term.{Question}
 use Rattle.covering.specs.Search.{covers}
-use Rattle.covering.specs.Record.{desk, questionOf, Sound}
+use Rattle.covering.specs.Record.{desk, questionOf}
+use Rattle.covering.specs.Record.{SoundRecord}
 use Rattle.covering.proofs.Tests.{not-true, not-false}
 use Rattle.covering.specs.Rule.{Rule}
 use Rattle.reading.specs.Book.{bookOf}
-use Rattle.unify.specs.Held.{QuestionIn}
+use Rattle.unify.specs.InBytes.{QuestionIn}
 use Rattle.explore.specs.declared.Fate.{Fate}
 use Rattle.explore.specs.declared.Fate.the-variants.{Dropped, Appended, Refused}
 use Rattle.exploration.specs.Run.{allRewritings}
-use Rattle.explore.specs.Held.{FateIs}
+use Rattle.explore.specs.WorkingArray.{FateIs}
 use denote.Enum.Declared.{tagOf}
 use Rattle.explore.proofs.Fate.{the-type}
 use Rattle.explore.proofs.Coming.{coming, Given, given-none, given-some}
@@ -66,10 +67,10 @@ listed : (e : tie.Else1 Inv-loop μ-loop) → given e .rewriting ∈ allRewritin
 listed e = rewriting-in _ _ _ _ (turn e .loop .inv) (given e)
 
 -- its record is sound, and its question is the rewriting
-sound : (e : tie.Else1 Inv-loop μ-loop) → Sound desk (record-of e)
+sound : (e : tie.Else1 Inv-loop μ-loop) → SoundRecord desk (record-of e)
 sound e =
     let b = start (turn e) in
-    subst (Sound desk) (sym (given e .bytes))
+    subst (SoundRecord desk) (sym (given e .bytes))
     (rewriting-sound (b .args .book .now) (b .pre .0) _ (b .pre .3 .fits) _ (listed e))
 
 length-is : (e : tie.Else1 Inv-loop μ-loop) → length (record-of e) ≡ 56
@@ -152,7 +153,7 @@ covers-sound-requires c κs =
     let e = having (c .before .before .before .before .before .before) in
     let b = start (turn e) in (
       sound e,
-      subst (Sound desk) (sym (b .pre .3 .holds)) (member-sound (b .args .book .now) (b .pre .0) _ (b .pre .3 .fits)),
+      subst (SoundRecord desk) (sym (b .pre .3 .holds)) (member-sound (b .args .book .now) (b .pre .0) _ (b .pre .3 .fits)),
     )
 
 same-length-2 : tie.Need-same-length-2 Inv-loop μ-loop

@@ -10,9 +10,10 @@ use lib.ListN.{drop}
 use Rattle.covering.specs.Lists.{any}
 use Rattle.covering.specs.Search.{covers}
 use Rattle.cover.specs.Candidates.{coversOn}
-use Rattle.covering.specs.Record.{desk, atomsAt, questionOf, Sound}
+use Rattle.covering.specs.Record.{desk, atomsAt, questionOf}
+use Rattle.covering.specs.Record.{SoundRecord}
 use Rattle.exploration.specs.Union.{membersFrom}
-use Rattle.explore.specs.Held.{beforeCovering}
+use Rattle.explore.specs.WorkingArray.{beforeCovering}
 use Rattle.exploration.specs.Standing.{Standing}
 use Rattle.explore.proofs.Finding.{any-end, any-hit, any-miss, covers-one, first-end, first-hit, first-miss}
 use Rattle.exploration.proofs.Standing.{Here, stands}
@@ -83,7 +84,7 @@ covers-on-requires : tie.Need-covers-on-requires Inv-atoms μ-atoms Inv-members 
 covers-on-requires c κs =
     let b = c .before .before .before .before in
     let a = b .before .before .before .before .before in (
-      subst (Sound desk) (sym (part-is (a .args .work .now) (b .before .members .at))) (here b .sound),
+      subst (SoundRecord desk) (sym (part-is (a .args .work .now) (b .before .members .at))) (here b .sound),
       a .pre .2,
       search needs,
     )

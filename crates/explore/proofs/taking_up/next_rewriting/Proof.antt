@@ -11,7 +11,7 @@ use Rattle.covering.specs.Record.{desk, questionOf}
 use Rattle.reading.specs.Header.{rules as rulesOf}
 use Rattle.reading.specs.Book.{ruleAt, rulesFrom, ruleStart, bookOf}
 use Rattle.reading.proofs.Reading.{rules-left}
-use Rattle.unify.specs.Held.{answered}
+use Rattle.unify.specs.InBytes.{foundOf}
 use Rattle.unification.specs.Step.{next}
 use Rattle.exploration.specs.Run.{apart}
 use Rattle.explore.specs.Taking.{nextAmong, taken}
@@ -48,7 +48,7 @@ within t = omega (arith, t .loop-test .taken, start t .pre .1)
 -- what was found for it
 found : (n : tie.After-next Inv-loop μ-loop)
     → n .next .result
-    ≡ answered
+    ≡ foundOf
     (next apart (ruleAt (book-of (asking n)) (ruleStart (book-of (asking n)) (asking n .before .loop .rule)))
     (member-of (asking n)) (asking n .before .loop .choice))
 found n =

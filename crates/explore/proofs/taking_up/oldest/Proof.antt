@@ -6,7 +6,8 @@ use mathlib.Core.Path.{_≡_, sym, ap, _∙_, subst}
 use mathlib.Core.List.{List}
 use Prim.Native.Nat.{ℕ, _+_, _-_, _≤_, _<_}
 use lib.ListN.{drop}
-use Rattle.covering.specs.Record.{desk, questionOf, Sound}
+use Rattle.covering.specs.Record.{desk, questionOf}
+use Rattle.covering.specs.Record.{SoundRecord}
 use Rattle.cover.specs.Buffer.{heldIn}
 use Rattle.covering.specs.Lists.{head}
 use Rattle.exploration.specs.Union.{membersFrom, firstAt}
@@ -91,7 +92,7 @@ part-copy-record-end c = search needs
 copy-record-requires : tie.Need-copy-record-requires Inv-loop μ-loop
 copy-record-requires c κs =
     let l = c .before .before .before in
-    subst (Sound desk) (sym (part-is (l .before .before .args .work .now) (l .loop .at))) (last (c .before) .sound)
+    subst (SoundRecord desk) (sym (part-is (l .before .before .args .work .now) (l .loop .at))) (last (c .before) .sound)
 
 returns : tie.Need-returns Inv-loop μ-loop
 returns c =

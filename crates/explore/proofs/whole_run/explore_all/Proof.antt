@@ -7,7 +7,7 @@ use mathlib.Core.List.{List}
 use Prim.Native.Nat.{ℕ, _-_, _<_}
 use lib.ListN.{length}
 use Rattle.reading.specs.Book.{bookOf}
-use Rattle.reading.proofs.Sound.{sound-long}
+use Rattle.reading.proofs.SoundBook.{sound-long}
 use Rattle.reading.proofs.Fits.{allowed-few}
 use Rattle.explore.proofs.Among.{rules-read}
 use Rattle.explore.proofs.Running.{Running, first-sound, first-fits, first-running, running-next}

@@ -5,7 +5,8 @@ use mathlib.Core.List.{List}
 use Prim.Native.Nat.{ℕ}
 use Rattle.covering.specs.Term.{Question}
 use Rattle.covering.specs.Form.{form}
-use Rattle.covering.specs.Record.{desk, questionOf, Sound}
+use Rattle.covering.specs.Record.{desk, questionOf}
+use Rattle.covering.specs.Record.{SoundRecord}
 use Rattle.cover.specs.Buffer.{heldIn}
 use Rattle.explore.proofs.Records.{record-sound, record-question, question-desk}
 use Rattle.explore.proofs.whole_run.first_member.Statement.{statement}
@@ -16,7 +17,7 @@ question-requires c κs = search needs
 
 in-form-requires : tie.Need-in-form-requires
 in-form-requires c κs =
-    subst (Sound desk) (sym (c .question .ensures)) (record-sound _ (question-desk _ (c .before .before .pre)))
+    subst (SoundRecord desk) (sym (c .question .ensures)) (record-sound _ (question-desk _ (c .before .before .pre)))
 
 returns : tie.Need-returns
 returns c =

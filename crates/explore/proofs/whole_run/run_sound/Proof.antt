@@ -4,7 +4,7 @@ use native.Mathlib.Omega.{arith}
 use mathlib.Core.Path.{subst}
 use Rattle.explore.specs.declared.Ran.the-variants.{Complete}
 use Rattle.exploration.specs.Answer.{outcomeOf}
-use Rattle.explore.specs.Held.{RanIs}
+use Rattle.explore.specs.WorkingArray.{RanIs}
 use Rattle.explore.proofs.Array.{len-most}
 use Rattle.explore.proofs.Endings.{returns-stopped, returns-complete}
 use Rattle.explore.proofs.whole_run.run_sound.Statement.{statement}

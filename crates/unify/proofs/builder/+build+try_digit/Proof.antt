@@ -22,13 +22,15 @@ use Rattle.covering.specs.Lists.{firstOf, numbers}
 use Rattle.covering.specs.Record.{desk, atomAt, atomsAt, questionOf}
 use Rattle.covering.specs.Term.{Question}
 use Rattle.book.specs.declared.Parts.{Parts}
-use Rattle.unify.specs.Build.{firstAt}
+use Rattle.unify.specs.Build.{firstByDigit}
 use Rattle.unify.specs.Table.{tableBuilder}
 use mathlib.Core.List.{List}
-use Rattle.unify.specs.Held.{ruleOf, classesOf, answered}
-use Rattle.unify.proofs.Bytes.{said-yes, said-no}
+use Rattle.unify.specs.InBytes.{ruleOf, classesOf}
+use Rattle.unify.specs.InBytes.{foundOf}
+use Rattle.unify.proofs.TableBytes.{joined-yes, joined-no}
 use Rattle.unify.proofs.Prefixes.{digits-none, digits-miss, prefix-digits, whole-sent, whole-unsent}
-use Rattle.unify.proofs.Written.{first-in, first-fits}
+use Rattle.unify.proofs.RewritingBytes.{first-fits}
+use Rattle.unify.proofs.RewritingBytes.{first-atom-in}
 use Rattle.unify.proofs.Asked.{found-first, missed-none, left-room, left-put, nth-sound, joined-fit}
 use Rattle.unify.proofs.Asked.{child-number, child-left, child-sent, heads-are, skipped, left-at, clash-at}
 use Rattle.unify.proofs.Asked.{sent-at, nth-fits, child-small}
@@ -42,7 +44,7 @@ use Rattle.unify.proofs.powers.choice_count.Reads as choice-count-reads
 abbrev given : List ℕ → List ℕ → Parts → ℕ → ℕ → ℕ → ℕ → Bool → List ℕ → List ℕ → ℕ
     → Option (ℕ × Question)
 given Q B p from i more number sent A table =
-    firstAt (tableBuilder 32 (ruleOf B p) from) number (questionOf desk A) sent (atomAt desk Q i)
+    firstByDigit (tableBuilder 32 (ruleOf B p) from) number (questionOf desk A) sent (atomAt desk Q i)
     (atomsAt desk Q (i + 5) (more - 1)) (classesOf table)
 
 abbrev μ-build : Measures 2 build-kinds.ps ℕ
@@ -110,7 +112,7 @@ build-returns : (t : ℕ) → build-lts.Need-returns (build-calls t) (build-at t
 build-returns t c =
     let a = c .before .before .before .before .before .args in
     c .judged .ensures
-    ∙ ap answered
+    ∙ ap foundOf
     (sym
     (whole-sent 32 (ruleOf (a .book .now) (a .rule)) (a .from) (a .number) (questionOf desk (a .left)) (a .sent)
     (classesOf (a .table)) desk (a .question .now) (a .i) (a .more) (c .before .before .if1 .taken) (c .before .if2 .taken)))
@@ -124,7 +126,7 @@ build-returns-2 : (t : ℕ)
 build-returns-2 t c =
     let a = c .before .before .before .before .before .args in
     c .nothing .ensures
-    ∙ ap answered
+    ∙ ap foundOf
     (sym
     (whole-unsent 32 (ruleOf (a .book .now) (a .rule)) (a .from) (a .number) (questionOf desk (a .left)) (a .sent)
     (classesOf (a .table)) desk (a .question .now) (a .i) (a .more) (c .before .before .if1 .taken) (c .before .if2 .left)))
@@ -150,7 +152,7 @@ build-returns-3 t c =
     let a = c .before .before .before .before .before .before .before .args in
     found-first (given (a .question .now) (a .book .now) (a .rule) (a .from) (a .i) (a .more) (a .number) (a .sent) (a .left) (a .table))
     (l .d) (suc (a .rule .heads) - l .d) (c .before .try-digit .result) (omega arith) (c .before .try-digit .ensures) (c .if3 .taken)
-    ∙ ap answered
+    ∙ ap foundOf
     (sym
     (prefix-digits 32 (ruleOf (a .book .now) (a .rule)) (a .from) (a .number) (questionOf desk (a .left)) (a .sent)
     (classesOf (a .table)) desk (a .question .now) (a .i) (a .more) (omega arith)
@@ -186,7 +188,7 @@ build-returns-4 t c =
     let l = c .before .before .loop in
     let a = c .before .before .before .before .before .before .args in
     c .nothing2 .ensures
-    ∙ ap answered
+    ∙ ap foundOf
     (sym
     (prefix-digits 32 (ruleOf (a .book .now) (a .rule)) (a .from) (a .number) (questionOf desk (a .left)) (a .sent)
     (classesOf (a .table)) desk (a .question .now) (a .i) (a .more) (omega arith)
@@ -235,7 +237,7 @@ try-digit-returns : (t : ℕ) → try-digit-lts.Need-returns (try-digit-calls t)
 try-digit-returns t c =
     let a = c .before .before .before .before .before .args in
     c .nothing .ensures
-    ∙ ap answered
+    ∙ ap foundOf
     (sym
     (skipped (a .book .now) (a .rule) (a .from) (a .number) (questionOf desk (a .left)) (a .sent)
     (atomAt desk (a .question .now) (a .i)) (a .question .now) (a .i + 5) (a .more - 1) (classesOf (a .table)) (a .d)
@@ -246,7 +248,7 @@ try-digit-put-atom-requires : (t : ℕ)
 try-digit-put-atom-requires t c κs =
     let start = c .before .before .before .before .before in
     let k = start .pre .1 .0 in
-    (left-room _ (k .left) (omega (arith, k .few, start .pre .1 .1)), first-in _ _ _ (k .atoms) (start .pre .1 .1))
+    (left-room _ (k .left) (omega (arith, k .few, start .pre .1 .1)), first-atom-in _ _ _ (k .atoms) (start .pre .1 .1))
 
 try-digit-add-build : (t : ℕ) → try-digit-lts.Need-add-build (try-digit-calls t) (try-digit-at t) try-digit.Post
 try-digit-add-build t c = omega arith
@@ -272,7 +274,7 @@ try-digit-returns-2 t c =
     let put = left-put (a .left) (c .before .put-atom .result) (atomAt desk (a .question .now) (a .i)) (k .left)
     (omega (arith, k .few, start .pre .1 .1)) (first-fits _ _ _ (k .atoms) (start .pre .1 .1)) (c .before .put-atom .ensures) in
     c .build .ensures
-    ∙ ap answered
+    ∙ ap foundOf
     (left-at (a .book .now) (a .rule) (a .from) (a .number) (questionOf desk (a .left)) (a .sent)
     (atomAt desk (a .question .now) (a .i)) (a .question .now) (a .i + 5) (a .more - 1) (classesOf (a .table)) (a .d) _
     (c .before .before .if2 .taken) (put .1))
@@ -311,11 +313,11 @@ try-digit-returns-3 t c =
     let a = start .args in
     let j = c .before .before .join-atoms in
     c .nothing2 .ensures
-    ∙ ap answered
+    ∙ ap foundOf
     (sym
     (clash-at (a .book .now) (a .rule) (a .from) (a .number) (questionOf desk (a .left)) (a .sent)
     (atomAt desk (a .question .now) (a .i)) (a .question .now) (a .i + 5) (a .more - 1) (classesOf (a .table)) (a .d)
-    (omega arith) (start .pre .1 .2) (sym (j .ensures) ∙ said-no (j .result) (not-true _ (c .before .if3 .taken)))))
+    (omega arith) (start .pre .1 .2) (sym (j .ensures) ∙ joined-no (j .result) (not-true _ (c .before .if3 .taken)))))
 
 try-digit-add-build-2 : (t : ℕ) → try-digit-lts.Need-add-build-2 (try-digit-calls t) (try-digit-at t) try-digit.Post
 try-digit-add-build-2 t c = omega arith
@@ -335,7 +337,7 @@ try-digit-build-requires-2 t c κs =
           (joined-fit (atomAt desk (a .question .now) (a .i)) (atomAt desk (a .book .now) (a .rule .head + (a .d - 1) * 5)) (a .table) _
           (first-fits _ _ _ (k .atoms) (start .pre .1 .1))
           (nth-fits _ _ (a .d - 1) _ (omega (arith, start .pre .1 .2)) (k .rule .head .sound))
-          (k .classes) (sym (j .ensures) ∙ said-yes (j .result) (not-false _ (c .before .if3 .left)))),
+          (k .classes) (sym (j .ensures) ∙ joined-yes (j .result) (not-false _ (c .before .if3 .left)))),
     )
 
 try-digit-returns-4 : (t : ℕ) → try-digit-lts.Need-returns-4 (try-digit-calls t) (try-digit-at t) try-digit.Post
@@ -344,10 +346,10 @@ try-digit-returns-4 t c =
     let a = start .args in
     let j = c .before .before .before .join-atoms in
     c .build2 .ensures
-    ∙ ap answered
+    ∙ ap foundOf
     (sent-at (a .book .now) (a .rule) (a .from) (a .number) (questionOf desk (a .left)) (a .sent)
     (atomAt desk (a .question .now) (a .i)) (a .question .now) (a .i + 5) (a .more - 1) (classesOf (a .table)) (a .d)
-    (omega arith) (start .pre .1 .2) (sym (j .ensures) ∙ said-yes (j .result) (not-false _ (c .before .before .if3 .left))))
+    (omega arith) (start .pre .1 .2) (sym (j .ensures) ∙ joined-yes (j .result) (not-false _ (c .before .before .if3 .left))))
 
 pub +build+try-digit-spec : {M : Type 1} → statement M
 +build+try-digit-spec = close μ-build μ-try-digit (λ t. build-lts.spec (build-calls t)

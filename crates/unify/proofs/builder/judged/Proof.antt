@@ -8,7 +8,8 @@ use Rattle.unify.specs.declared.Found.{Found}
 use mathlib.Core.Path.{sym, ap, _∙_}
 use borrow.Author.Tests.{not-true, not-false}
 use Rattle.covering.specs.Record.{questionOf, desk}
-use Rattle.unify.specs.Held.{answered, ruleOf, classesOf}
+use Rattle.unify.specs.InBytes.{ruleOf, classesOf}
+use Rattle.unify.specs.InBytes.{foundOf}
 use Rattle.unify.proofs.Build.{since-early}
 use Rattle.unify.proofs.Prefixes.{judged-no, judged-yes}
 use Rattle.unification.specs.Step.{move, judge}
@@ -23,7 +24,7 @@ returns : tie.Need-returns
 returns c =
     let a = c .before .before .before .args in
     let o = judge (questionOf desk (a .left)) (move 32 (ruleOf (a .book .now) (a .rule))) (tabled (classesOf (a .table))) in
-    c .nothing .ensures ∙ ap answered (sym (since-early (a .from) (a .number) o (c .before .if1 .taken)))
+    c .nothing .ensures ∙ ap foundOf (sym (since-early (a .from) (a .number) o (c .before .if1 .taken)))
 
 is-valid-requires : tie.Need-is-valid-requires
 is-valid-requires c κs = let pre = c .before .before .pre in (pre .1 .atoms, pre .0 .body, pre .0 .head)
@@ -37,7 +38,7 @@ returns-2 c =
     let a = c .before .before .before .before .before .args in
     let v = c .before .before .is-valid in
     c .nothing2 .ensures
-    ∙ ap answered
+    ∙ ap foundOf
     (sym
     (judged-no (a .from) (a .number) (questionOf desk (a .left)) (move 32 (ruleOf (a .book .now) (a .rule)))
     (tabled (classesOf (a .table))) (sym (v .ensures) ∙ not-true _ (c .before .if2 .taken))))
@@ -54,7 +55,7 @@ returns-3 c =
     let is-so = sym (v .ensures) ∙ not-false _ (c .before .if2 .left) in
     let written : List ℕ → Found = λ w. record { found = true; choice = number; rewriting = w } in
     ap written (c .rewriting .ensures)
-    ∙ ap answered
+    ∙ ap foundOf
     (sym
     (judged-yes (a .from) (a .number) (questionOf desk (a .left)) (move 32 (ruleOf (a .book .now) (a .rule)))
     (tabled (classesOf (a .table))) (c .before .before .before .if1 .left) is-so))

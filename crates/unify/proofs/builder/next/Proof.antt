@@ -3,7 +3,7 @@
 use borrow.Author.Needs.{needs}
 use native.Mathlib.Omega.{arith}
 use mathlib.Core.Path.{ap, _∙_}
-use Rattle.unify.specs.Held.{answered}
+use Rattle.unify.specs.InBytes.{foundOf}
 use Rattle.unify.proofs.Asked.{start-asks, start-next}
 use Rattle.unify.proofs.builder.next.Statement.{statement}
 use Rattle.unify.proofs.builder.next.Tie as tie
@@ -29,7 +29,7 @@ returns : tie.Need-returns
 returns c =
     let start = c .before .before .before .before .before .before in
     c .build .ensures
-    ∙ ap answered
+    ∙ ap foundOf
     (start-next _ _ _ (start .pre .0) (start .pre .1) _ _ (c .before .before .no-atoms .ensures)
     (c .before .all-apart .ensures) _)
 

@@ -3,7 +3,7 @@ use borrow.Author.Needs.{needs}
 use mathlib.Core.Path.{_≡_, sym}
 use lib.ListN.{length}
 use native.Mathlib.Omega.{arith}
-use Rattle.unify.proofs.Bytes.{look-variable, look-other}
+use Rattle.unify.proofs.TableBytes.{look-variable, look-other}
 use Rattle.unify.proofs.byte.stands_for.Statement.{statement}
 use Rattle.unify.proofs.byte.stands_for.Tie as tie
 

@@ -5,8 +5,8 @@ use native.Mathlib.Omega.{arith}
 use mathlib.Core.Path.{refl, sym, _∙_}
 use Rattle.covering.specs.Record.{desk}
 use Rattle.covering.proofs.Bytes.{atom-used}
-use Rattle.unify.specs.Held.{inBook}
-use Rattle.unify.proofs.Bytes.{said-no}
+use Rattle.unify.specs.InBytes.{inBook}
+use Rattle.unify.proofs.TableBytes.{joined-no}
 use Rattle.unify.proofs.Joins.{pairs-apart, pairs-meet}
 use Rattle.unify.proofs.joining.join_atoms.Statement.{statement}
 use Rattle.unify.proofs.joining.join_atoms.Tie as tie
@@ -18,7 +18,7 @@ shared-slice-read-if1-2 : tie.Need-shared-slice-read-if1-2
 shared-slice-read-if1-2 c = search needs
 
 returns : tie.Need-returns
-returns c = said-no _ refl ∙ sym (pairs-apart desk _ _ _ _ _ (c .if1 .taken))
+returns c = joined-no _ refl ∙ sym (pairs-apart desk _ _ _ _ _ (c .if1 .taken))
 
 add-join-places : tie.Need-add-join-places
 add-join-places c = search needs

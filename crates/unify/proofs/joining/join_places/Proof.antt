@@ -16,8 +16,9 @@ use Rattle.covering.proofs.Bytes.{used-more, term-constant}
 use Rattle.unification.specs.Choice.{placePairs}
 use Rattle.unification.specs.Step.{up}
 use Rattle.unify.specs.Table.{look, joinTable, unifyTable}
-use Rattle.unify.specs.Held.{inBook, classesOf, said}
-use Rattle.unify.proofs.Bytes.{said-yes, said-no}
+use Rattle.unify.specs.InBytes.{inBook, classesOf}
+use Rattle.unify.specs.InBytes.{joinedTable}
+use Rattle.unify.proofs.TableBytes.{joined-yes, joined-no}
 use Rattle.unify.proofs.Joins.{joins-done, joins-end, joins-short, joins-clash, joins-next}
 use Rattle.unify.proofs.joining.join_places.Statement.{statement}
 use Rattle.unify.proofs.joining.join_places.Tie as tie
@@ -50,7 +51,7 @@ shared-slice-read-u : tie.Need-shared-slice-read-u Inv-loop μ-loop
 shared-slice-read-u c = omega arith
 
 returns : tie.Need-returns Inv-loop μ-loop
-unfolding said
+unfolding joinedTable
 returns c =
     let l = c .before .before .before .before in
     let a = l .before .before .before .args in
@@ -62,7 +63,7 @@ returns-2 : tie.Need-returns-2 Inv-loop μ-loop
 returns-2 c =
     let l = c .before .before .before .before .before in
     let a = l .before .before .before .args in
-    said-no _ refl
+    joined-no _ refl
     ∙ sym
     (l .loop .inv .2
     ∙ joins-short (a .question .now) (a .book .now) (a .i) (a .k) (l .loop .j) 4 (omega arith) _ (c .before .if1 .left)
@@ -99,7 +100,7 @@ step-is : (c : tie.After-join Inv-loop μ-loop)
     (look
     (classesOf (turn c .loop .so-far))
     (on-term (up 32) (termOf (getD (start c .args .book .now) (start c .args .k + turn c .loop .j) 0))))
-    ≡ said (c .join .result)
+    ≡ joinedTable (c .join .result)
 step-is c =
     let m = classesOf (turn c .loop .so-far) in
     sym
@@ -112,12 +113,12 @@ returns-3 c =
     let l = c .before .before .before .before .before .before .before .before .before .before in
     let a = l .before .before .before .args in
     let p = c .before .join in
-    said-no (p .result) (not-true _ (c .if3 .taken))
+    joined-no (p .result) (not-true _ (c .if3 .taken))
     ∙ sym
     (l .loop .inv .2
     ∙ joins-clash (a .question .now) (a .book .now) (a .i) (a .k) (l .loop .j) 4 (omega arith) _
     (c .before .before .before .before .before .before .if1 .left) (c .before .before .before .before .before .if2 .left)
-    (step-is (c .before) ∙ said-no (p .result) (not-true _ (c .if3 .taken))))
+    (step-is (c .before) ∙ joined-no (p .result) (not-true _ (c .if3 .taken))))
 
 add-j : tie.Need-add-j Inv-loop μ-loop
 add-j c = omega arith
@@ -136,11 +137,11 @@ loop-again c =
       l .loop .inv .2
           ∙ joins-next (a .question .now) (a .book .now) (a .i) (a .k) (l .loop .j) 4 (omega arith) _
           (c .before .before .before .before .before .before .before .if1 .left) used
-          (step-is (c .before .before) ∙ said-yes (p .result) (not-false _ (c .before .if3 .left))),
+          (step-is (c .before .before) ∙ joined-yes (p .result) (not-false _ (c .before .if3 .left))),
     )
 
 returns-4 : tie.Need-returns-4 Inv-loop μ-loop
-returns-4 c = said-yes _ refl ∙ sym (c .before .loop .inv .2 ∙ joins-done _ _ _ _ _ _ (omega arith))
+returns-4 c = joined-yes _ refl ∙ sym (c .before .loop .inv .2 ∙ joins-done _ _ _ _ _ _ (omega arith))
 
 pub join-places-spec : {M : Type 1} → statement M
 join-places-spec =

@@ -7,9 +7,9 @@ use Prim.Native.Nat.{_-_, _≤_}
 use lib.ListN.{length}
 use mathlib.Core.Bool.{cond}
 use lib.Dec.{eqb}
-use Rattle.unify.specs.Held.{classesOf}
+use Rattle.unify.specs.InBytes.{classesOf}
 use Rattle.unify.proofs.Each.{done, done-none, done-more, done-all}
-use Rattle.unify.proofs.Bytes.{put-points}
+use Rattle.unify.proofs.TableBytes.{put-points}
 use Rattle.unify.proofs.joining.replaced.Statement.{statement}
 use Rattle.unify.proofs.joining.replaced.Tie as tie
 

@@ -13,9 +13,9 @@ use Rattle.covering.specs.Term.{on-term}
 use Rattle.covering.specs.Record.{argsAt, usedFirst}
 use Rattle.covering.proofs.Bytes.{used-more, term-constant}
 use Rattle.unification.specs.Step.{up}
-use Rattle.unify.specs.Held.{inBook}
+use Rattle.unify.specs.InBytes.{inBook}
 use Rattle.unify.proofs.EachTerm.{each-place-end, each-place-fails, each-place-passes, each-place-none}
-use Rattle.unify.proofs.Judged.{allowedByte}
+use Rattle.unify.proofs.ValidTests.{allowedByte}
 use Rattle.unify.proofs.judging.allowed_places.Statement.{statement}
 use Rattle.unify.proofs.judging.allowed_places.Tie as tie
 

@@ -10,9 +10,9 @@ use Rattle.cover.specs.Buffer.{AtomsIn}
 use Rattle.covering.proofs.Bytes.{atom-used}
 use Rattle.covering.proofs.Places.{sound-more}
 use Rattle.unification.specs.Step.{up}
-use Rattle.unify.specs.Held.{inBook}
+use Rattle.unify.specs.InBytes.{inBook}
 use Rattle.unify.proofs.EachTerm.{each-term-none, each-term-fails, each-term-passes}
-use Rattle.unify.proofs.Judged.{apartByte}
+use Rattle.unify.proofs.ValidTests.{apartByte}
 use Rattle.unify.proofs.judging.apart_atoms.Statement.{statement}
 use Rattle.unify.proofs.judging.apart_atoms.Tie as tie
 

@@ -5,8 +5,8 @@ use borrow.Author.Needs.{needs}
 use mathlib.Core.Path.{sym}
 use Rattle.covering.specs.Record.{termOf}
 use Rattle.unify.specs.Table.{tabled}
-use Rattle.unify.specs.Held.{ruleIn, classesOf}
-use Rattle.unify.proofs.Judged.{is-var, is-con, leftIn, allowed-constant, allowed-frontier, allowed-unknown}
+use Rattle.unify.specs.InBytes.{ruleIn, classesOf}
+use Rattle.unify.proofs.ValidTests.{is-var, is-con, leftIn, allowed-constant, allowed-frontier, allowed-unknown}
 use Rattle.unify.proofs.judging.is_allowed.Statement.{statement}
 use Rattle.unify.proofs.judging.is_allowed.Tie as tie
 

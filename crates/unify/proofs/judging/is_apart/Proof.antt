@@ -3,8 +3,8 @@ use borrow.Author.Needs.{needs}
 use mathlib.Core.Path.{sym, _∙_}
 use Rattle.covering.specs.Record.{termOf}
 use Rattle.unify.specs.Table.{tabled}
-use Rattle.unify.specs.Held.{classesOf}
-use Rattle.unify.proofs.Judged.{tabled-look, apart-itself, apart-class}
+use Rattle.unify.specs.InBytes.{classesOf}
+use Rattle.unify.proofs.ValidTests.{tabled-look, apart-itself, apart-class}
 use Rattle.unify.proofs.judging.is_apart.Statement.{statement}
 use Rattle.unify.proofs.judging.is_apart.Tie as tie
 

@@ -4,8 +4,8 @@ use borrow.Author.Needs.{needs}
 use mathlib.Core.Path.{sym}
 use borrow.Author.Tests.{not-true, not-false}
 use Rattle.covering.specs.Record.{termOf}
-use Rattle.unify.specs.Held.{ruleIn, classesOf}
-use Rattle.unify.proofs.Judged.{is-var, is-con, leftIn, safe-constant, safe-left, safe-body, safe-head}
+use Rattle.unify.specs.InBytes.{ruleIn, classesOf}
+use Rattle.unify.proofs.ValidTests.{is-var, is-con, leftIn, safe-constant, safe-left, safe-body, safe-head}
 use Rattle.unify.proofs.judging.is_safe.Statement.{statement}
 use Rattle.unify.proofs.judging.is_safe.Tie as tie
 

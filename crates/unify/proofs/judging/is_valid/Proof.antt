@@ -12,9 +12,9 @@ use Rattle.covering.proofs.Bytes.{atom-used}
 use Rattle.covering.proofs.Places.{sound-more}
 use Rattle.unification.specs.Step.{up, move, valid}
 use Rattle.unify.specs.Table.{tabled}
-use Rattle.unify.specs.Held.{inBook, ruleIn, classesOf}
+use Rattle.unify.specs.InBytes.{inBook, ruleIn, classesOf}
 use Rattle.unify.proofs.EachTerm.{each-term-none, each-term-fails, each-term-passes}
-use Rattle.unify.proofs.Judged.{leftIn, allowedByte}
+use Rattle.unify.proofs.ValidTests.{leftIn, allowedByte}
 use Rattle.unify.proofs.judging.is_valid.Statement.{statement}
 use Rattle.unify.proofs.judging.is_valid.Tie as tie
 

@@ -1,7 +1,7 @@
 -- `unify::judging::shifted` meets its contract: a variable goes up by the shift, a constant stays.
 use borrow.Author.Needs.{needs}
 use native.Mathlib.Omega.{arith}
-use Rattle.unify.proofs.Judged.{up-variable, up-constant}
+use Rattle.unify.proofs.ValidTests.{up-variable, up-constant}
 use Rattle.unify.proofs.judging.shifted.Statement.{statement}
 use Rattle.unify.proofs.judging.shifted.Tie as tie
 

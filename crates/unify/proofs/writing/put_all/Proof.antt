@@ -7,11 +7,12 @@ use Rattle.covering.specs.Term.{on-question}
 use Rattle.covering.specs.Record.{desk, atomsAt, questionOf}
 use Rattle.cover.specs.Buffer.{heldIn, AtomsIn}
 use Rattle.cover.specs.Building.{subOf}
-use Rattle.unify.specs.Held.{inBook, Filling}
+use Rattle.unify.specs.InBytes.{inBook, Filling}
 use lib.ListN.{length}
 use borrow.Author.Needs.{needs}
-use Rattle.unify.proofs.Written.{first-in, rest-in, first-fits, atom-on, filling-room, filling-put, put-more}
-use Rattle.unify.proofs.Written.{put-none}
+use Rattle.unify.proofs.RewritingBytes.{rest-in, first-fits, atom-on, filling-room, filling-put, put-more}
+use Rattle.unify.proofs.RewritingBytes.{first-atom-in}
+use Rattle.unify.proofs.RewritingBytes.{put-none}
 use Rattle.unify.proofs.writing.put_all.Statement.{statement}
 use Rattle.unify.proofs.writing.put_all.Tie as tie
 
@@ -34,7 +35,7 @@ put-on-requires c κs =
     let start = c .before .before .before in
     let long : length (start .args .table) ≡ 64 = search needs in (
       filling-room _ _ (l .inv .0) (omega arith),
-      first-in _ _ _ (l .inv .1) (omega arith),
+      first-atom-in _ _ _ (l .inv .1) (omega arith),
       atom-on (start .args .table) (start .pre .2) long _ (first-fits _ _ _ (l .inv .1) (omega arith)),
     )
 

@@ -7,7 +7,7 @@ use mathlib.Core.Path.{_≡_, ap, _∙_}
 use Rattle.covering.specs.Form.{form}
 use Rattle.covering.specs.Record.{desk}
 use Rattle.cover.specs.Buffer.{heldIn}
-use Rattle.unify.proofs.Written.{filling-none, left-filling, whole-sound, whole-question, upper-fits}
+use Rattle.unify.proofs.RewritingBytes.{filling-none, left-filling, whole-sound, whole-question, upper-fits}
 use Rattle.unify.proofs.writing.rewriting.Statement.{statement}
 use Rattle.unify.proofs.writing.rewriting.Tie as tie
 

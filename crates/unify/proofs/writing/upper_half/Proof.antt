@@ -3,7 +3,7 @@
 use borrow.Author.Needs.{needs}
 use native.Mathlib.Omega.{arith}
 use Prim.Native.Nat.{_-_, _≤_}
-use Rattle.unify.proofs.Written.{Half, half-none, half-more, half-all}
+use Rattle.unify.proofs.RewritingBytes.{Half, half-none, half-more, half-all}
 use Rattle.unify.proofs.writing.upper_half.Statement.{statement}
 use Rattle.unify.proofs.writing.upper_half.Tie as tie
 

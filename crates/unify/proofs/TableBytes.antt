@@ -18,7 +18,8 @@ use Rattle.unify.specs.declared.Joined.{Joined}
 use Rattle.unification.specs.Classes.{point}
 use Rattle.unification.specs.Step.{up}
 use Rattle.unify.specs.Table.{Table, look, joinTable}
-use Rattle.unify.specs.Held.{classesOf, said}
+use Rattle.unify.specs.InBytes.{classesOf}
+use Rattle.unify.specs.InBytes.{joinedTable}
 
 pub moved-variable : (u : ℕ) → u < 32 → termOf (u + 32) ≡ on-term (up 32) (termOf u)
 moved-variable u h = term-var (u + 32) (omega arith) ∙ ap var (omega arith) ∙ sym (ap (on-term (up 32)) (term-var u (omega arith)))
@@ -95,10 +96,10 @@ pub join-clash : (m : List ℕ) (a b : ℕ) → 128 ≤ a → 128 ≤ b → (a �
     → joinTable (classesOf m) (termOf a) (termOf b) ≡ none
 join-clash m a b h k ne = rw (term-con a h, term-con b k, ne-eqb (a - 128) (b - 128) (λ e. ne (omega arith)))
 
-pub said-yes : (p : Joined) → p .ok ≡ true → said p ≡ some (classesOf (p .table))
-unfolding said
-said-yes p e = rw e
+pub joined-yes : (p : Joined) → p .ok ≡ true → joinedTable p ≡ some (classesOf (p .table))
+unfolding joinedTable
+joined-yes p e = rw e
 
-pub said-no : (p : Joined) → p .ok ≡ false → said p ≡ none
-unfolding said
-said-no p e = rw e
+pub joined-no : (p : Joined) → p .ok ≡ false → joinedTable p ≡ none
+unfolding joinedTable
+joined-no p e = rw e

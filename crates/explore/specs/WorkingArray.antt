@@ -21,14 +21,15 @@ use Rattle.explore.specs.declared.Explored.{Explored}
 use Rattle.explore.specs.declared.Explored.the-variants.{Passed, Refused as NotExplored}
 use Rattle.explore.specs.declared.Ran.{Ran}
 use Rattle.explore.specs.declared.Ran.the-variants.{Complete, Refused as NotRun}
-use Rattle.exploration.specs.Run.{State, Test, limits, Why, number, dropped, admitted, stopped, passed, failed}
+use Rattle.exploration.specs.Run.{State, Test, limits, Why, refusalNumber, dropped, admitted, stopped, passed, failed}
 use Rattle.exploration.specs.Run.{Outcome, complete, refused}
-use Rattle.exploration.specs.Run.{oldest, without, admit, through, allRewritings}
+use Rattle.exploration.specs.Run.{oldest, admit, through, allRewritings}
+use Rattle.exploration.specs.Run.{remaining}
 use Rattle.exploration.specs.Union.{membersBytes, membersFrom, firstAt, total, outputSize}
 
 -- "One working array of 2,632 bytes": the members' records stand one after the other from 8 on and end at `len`;
 -- `count` members, the first `front` of them explored
-pub record Held (W : List ℕ) (len count front : ℕ) (s : State) : Type 0 where
+pub record HoldsState (W : List ℕ) (len count front : ℕ) (s : State) : Type 0 where
   pub size : length W ≡ outputSize
   pub bytes : drop firstAt W ≡ membersBytes (s .members) ++ drop len W
   pub ends : len ≡ total (s .members)
@@ -36,13 +37,13 @@ pub record Held (W : List ℕ) (len count front : ℕ) (s : State) : Type 0 wher
   pub explored : front ≡ s .explored
 
 -- the state that is read from a working array filled so far
-abbrev pub stateOf : List ℕ → Extent → State
-stateOf W e = record { members = membersFrom W firstAt (e .count); explored = e .front }
+abbrev pub stateIn : List ℕ → Extent → State
+stateIn W e = record { members = membersFrom W firstAt (e .count); explored = e .front }
 
 -- A working array in order: it holds the state that is read from it, at most 64 members of 1 to 8 atoms. What stands
 -- in it after the last member does not count.
 pub record Working (W : List ℕ) (e : Extent) : Type 0 where
-  pub held : Held W (e .len) (e .count) (e .front) (stateOf W e)
+  pub held : HoldsState W (e .len) (e .count) (e .front) (stateIn W e)
   pub few : e .count ≤ 64
   pub ahead : e .front ≤ e .count
   pub fits : (M : Question) → M ∈ membersFrom W firstAt (e .count) → Fits desk M
@@ -55,12 +56,12 @@ beforeCovering cov P (M ∷ U) = let r = suc (beforeCovering cov P U) in cond (c
 
 -- Of the n members that stand in W from `from` on, those that P does not cover stand in X from `to` on; what is before
 -- `to` and after the last of the n is as it was.
-pub record Kept (W : List ℕ) (from to n : ℕ) (P : Question) (X : List ℕ) (r : Moved) : Type 0 where
+pub record Remain (W : List ℕ) (from to n : ℕ) (P : Question) (X : List ℕ) (r : Moved) : Type 0 where
   pub size : length X ≡ length W
   pub lower : r .to ≤ r .from
-  pub bytes : take (r .to) X ≡ take to W ++ membersBytes (without covers P (membersFrom W from n))
-  pub ends : r .to ≡ to + length (membersBytes (without covers P (membersFrom W from n)))
-  pub count : r .kept ≡ length (without covers P (membersFrom W from n))
+  pub bytes : take (r .to) X ≡ take to W ++ membersBytes (remaining covers P (membersFrom W from n))
+  pub ends : r .to ≡ to + length (membersBytes (remaining covers P (membersFrom W from n)))
+  pub count : r .kept ≡ length (remaining covers P (membersFrom W from n))
   pub passed : r .from ≡ from + length (membersBytes (membersFrom W from n))
   pub after : drop (r .from) X ≡ drop (r .from) W
 
@@ -68,20 +69,20 @@ pub record Kept (W : List ℕ) (from to n : ℕ) (P : Question) (X : List ℕ) (
 abbrev pub rest : State → Question → State
 rest s P =
     record {
-      members = without covers P (s .members);
-      explored = length (without covers P (take (s .explored) (s .members)));
+      members = remaining covers P (s .members);
+      explored = length (remaining covers P (take (s .explored) (s .members)));
     }
 
 -- What becomes of the rewriting P, and of the working array W: X is the array afterwards. Where the run is refused the
 -- array does not count any more.
 abbrev pub FateIs : List ℕ → Extent → Question → List ℕ → Fate → Type 0
-FateIs W e P X Dropped = (admit covers limits (stateOf W e) P ≡ dropped) × (X ≡ W)
-FateIs W e P X (Appended f) = (admit covers limits (stateOf W e) P ≡ admitted (stateOf X f)) × Working X f
-FateIs W e P X (Refused n) = (w : Why) × (admit covers limits (stateOf W e) P ≡ stopped w) × (n ≡ number w)
+FateIs W e P X Dropped = (admit covers limits (stateIn W e) P ≡ dropped) × (X ≡ W)
+FateIs W e P X (Appended f) = (admit covers limits (stateIn W e) P ≡ admitted (stateIn X f)) × Working X f
+FateIs W e P X (Refused n) = (w : Why) × (admit covers limits (stateIn W e) P ≡ stopped w) × (n ≡ refusalNumber w)
 
 -- "the oldest unexplored member", as a record of 56 bytes
 abbrev pub OldestIs : List ℕ → Extent → List ℕ → Type 0
-OldestIs W e R = (M : Question) × (oldest (stateOf W e) ≡ some M) × (R ≡ heldIn desk 56 M)
+OldestIs W e R = (M : Question) × (oldest (stateIn W e) ≡ some M) × (R ≡ heldIn desk 56 M)
 
 -- a member as a record of 56 bytes, the rest 255: it keeps to the book's relations, places and constants
 pub record MemberIn (B R : List ℕ) : Type 0 where
@@ -91,11 +92,11 @@ pub record MemberIn (B R : List ℕ) : Type 0 where
 -- what becomes of the exploration of the member M, by these rules, and of the working array W
 abbrev pub ExploredIs : List Rule → Question → List ℕ → Extent → List ℕ → Explored → Type 0
 ExploredIs rules M W e X (Passed f) =
-    (through covers limits M (allRewritings rules M) (stateOf W e) ≡ passed (stateOf X f)) × Working X f
+    (through covers limits M (allRewritings rules M) (stateIn W e) ≡ passed (stateIn X f)) × Working X f
 ExploredIs rules M W e X (NotExplored n) =
-    (w : Why) × (through covers limits M (allRewritings rules M) (stateOf W e) ≡ failed w) × (n ≡ number w)
+    (w : Why) × (through covers limits M (allRewritings rules M) (stateIn W e) ≡ failed w) × (n ≡ refusalNumber w)
 
 -- what becomes of the run, whose outcome is o; complete, the working array X holds the members
 abbrev pub RanIs : Outcome → List ℕ → Ran → Type 0
-RanIs o X (Complete f n) = (o ≡ complete (stateOf X f .members) n) × Working X f × (n ≤ 1000)
-RanIs o X (NotRun k p) = (w : Why) × (o ≡ refused w p) × (k ≡ number w)
+RanIs o X (Complete f n) = (o ≡ complete (stateIn X f .members) n) × Working X f × (n ≤ 1000)
+RanIs o X (NotRun k p) = (w : Why) × (o ≡ refused w p) × (k ≡ refusalNumber w)

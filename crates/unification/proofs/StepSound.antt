@@ -17,7 +17,8 @@ use Rattle.covering.proofs.Tests.{decide, clash, both, fst-of, snd-of, not-of, 
 use Rattle.covering.proofs.Terms.{var-inj, var≢con, eqTerm→eq, eq→eqTerm, on-term-comp, on-atom-same, on-atom-comp}
 use Rattle.covering.proofs.Terms.{terms-in}
 use Rattle.covering.specs.Rule.{Rule}
-use Rattle.unification.specs.Classes.{Kernel, Holds}
+use Rattle.unification.specs.Classes.{Kernel}
+use Rattle.unification.specs.Classes.{HoldsPairs}
 use Rattle.unification.specs.Choice.{Choice, left, toHead, pairing}
 use Rattle.unification.specs.Step.{move, Below, memTerm, isUnknown, guarded, valid, rewriting, rewritings}
 use Rattle.unification.specs.Apply.{Applies}
@@ -209,12 +210,12 @@ module _ (r : Rule) (Q F : Question) (ds : Choice) (σ τ : Sub)
         cancel y z e = omega arith
 
     -- an atom that is left holds in F, one that is sent goes to its head atom's image
-    holds-here : Holds (Kernel σ) (pairing ds Q (r .head)) → Covers Q G
+    holds-here : HoldsPairs (Kernel σ) (pairing ds Q (r .head)) → Covers Q G
     unfolding G
     holds-here unified =
         record { by = ρ; sends = λ a m. go a m (split-choice (Kernel σ) ds Q (r .head) a unified m) }
       where
-        go : (a : Atom) → a ∈ Q → (a ∈ left ds Q) ⊎ ((d : ℕ) × Holds (Kernel σ) (toHead (r .head) d a))
+        go : (a : Atom) → a ∈ Q → (a ∈ left ds Q) ⊎ ((d : ℕ) × HoldsPairs (Kernel σ) (toHead (r .head) d a))
             → on-atom ρ a ∈ F ++ on-question s (r .head)
         go a m (inl k) =
             Memᴰ·append-left _
@@ -272,7 +273,7 @@ step-sound k r Q P F below m cov = (
     bodies : Sends (comp τ σ) (r′ .body) F
     bodies a n = every a (Memᴰ·append-right (left ds Q) n)
 
-    solved : Holds (Kernel σ) (pairing ds Q (r′ .head))
+    solved : HoldsPairs (Kernel σ) (pairing ds Q (r′ .head))
     solved = unify-sound (pairing ds Q (r′ .head)) var σ (w .found) .holds
 
     apart : (n : ℕ) → var n ∈ terms Q → var n ∈ terms (r′ .head) → ⊥

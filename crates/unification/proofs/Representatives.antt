@@ -6,15 +6,17 @@ use mathlib.Core.Logic.{_⊎_, inl, inr}
 use mathlib.Core.List.{List, _++_, List·Memᴰ·append-cases, Memᴰ·append-left, Memᴰ·append-right}
 use mathlib.Core.Option.{some, Option·some-injective, none}
 use Prim.Native.Nat.{ℕ}
-use Rattle.covering.proofs.Same.{Alike}
+use Rattle.covering.proofs.SameForm.{Alike}
 use Rattle.covering.specs.Lists.{_∈_}
 use Rattle.covering.specs.Term.{Term, Question, terms, Sub, on-term, eqTerm, var, con}
 use Rattle.covering.proofs.Lists.{all-same}
-use Rattle.covering.proofs.Same.{eq-same, var-same, alike-part, form-same, isVar as isVar′}
+use Rattle.covering.proofs.SameForm.{eq-same, var-same, alike-part, form-same}
+use Rattle.covering.specs.Term.{isVar as isVar′, isVar}
 use Rattle.covering.proofs.Terms.{terms-append}
 use Rattle.covering.specs.Rule.{Rule}
-use Rattle.unification.specs.Classes.{Pair, unify, Kernel, Holds}
-use Rattle.unification.specs.Step.{isUnknown, guarded, safe, valid, judge, isVar}
+use Rattle.unification.specs.Classes.{Pair, unify, Kernel}
+use Rattle.unification.specs.Classes.{HoldsPairs}
+use Rattle.unification.specs.Step.{isUnknown, guarded, safe, valid, judge}
 use Rattle.unification.proofs.Classes.{Least, unify-least, kernel-admissible}
 use Rattle.unification.proofs.Valid.{near-on}
 
@@ -77,7 +79,7 @@ alike-absorbed s t f g ts =
 
 -- whatever classes hold the pairs and merge no more than the ones found: they are alike, so they give the same
 -- verdict
-pub least-alike : (ps : List Pair) (σ τ : Sub) → unify ps var ≡ some σ → Holds (Kernel τ) ps
+pub least-alike : (ps : List Pair) (σ τ : Sub) → unify ps var ≡ some σ → HoldsPairs (Kernel τ) ps
     → ((n : ℕ) → Kernel σ (τ n) (var n)) → (ts : List Term) → Alike σ τ ts
 least-alike ps σ τ found holds near = alike-absorbed σ τ (near-on τ σ forth) (near-on σ τ near)
   where

@@ -14,14 +14,16 @@ use lib.Seq.{getD-set-same, getD-set-other}
 use Rattle.covering.specs.Lists.{_∈_}
 use Rattle.covering.specs.Term.{Term, var, con, Atom, Question, Sub, on-term, on-atom, on-question, comp}
 use Rattle.covering.specs.Record.{desk, size, termOf, atomAt, atomsAt, questionOf, areAtoms}
-use Rattle.cover.specs.Buffer.{heldIn, AtomIn, Room, AtomsIn}
-use Rattle.covering.specs.Record.{TermFits, AtomFits, Sound}
+use Rattle.cover.specs.Buffer.{heldIn, AtomIn, AtomsIn}
+use Rattle.cover.specs.Buffer.{RoomLeft}
+use Rattle.covering.specs.Record.{TermFits, AtomFits}
+use Rattle.covering.specs.Record.{SoundRecord}
 use Rattle.cover.specs.Building.{subOf}
 use Rattle.covering.proofs.Lists.{map-same, map-append}
 use Rattle.covering.proofs.Tests.{either}
 use Rattle.covering.proofs.Terms.{on-atom-comp, on-atom-same}
 use Rattle.covering.proofs.Places.{atoms-none, atoms-more, sound-more}
-use Rattle.covering.proofs.RoundTrip.{Apart}
+use Rattle.covering.proofs.RoundTrip.{TellsApart}
 use Rattle.cover.proofs.Padded.{held-count, held-question, held-atoms, held-sound}
 use Rattle.covering.proofs.RoundTrip.{desk-apart}
 use Rattle.covering.proofs.Places.{question-at}
@@ -33,18 +35,18 @@ use Rattle.cover.proofs.Within.{in-wider}
 use Rattle.book.specs.declared.Parts.{Parts}
 use Rattle.unification.specs.Step.{up, move, rewriting}
 use Rattle.unify.specs.Table.{tabled}
-use Rattle.unify.specs.Held.{inBook, classesOf, ruleIn, ruleOf, ClassesFit, Filling, UpperHalf, LeftIn, RuleIn}
-use Rattle.unify.proofs.Bytes.{classes-at}
+use Rattle.unify.specs.InBytes.{inBook, classesOf, ruleIn, ruleOf, ClassesFit, Filling, UpperHalf, LeftIn, RuleIn}
+use Rattle.unify.proofs.TableBytes.{classes-at}
 
 -- a book's atoms keep to the desk's layout
 pub book-desk : Wider inBook desk
 book-desk = record { relations = omega arith; places = refl; variables = omega arith; constants = omega arith }
 
-pub book-apart : Apart inBook
+pub book-apart : TellsApart inBook
 book-apart = record { variables = omega arith; constants = omega arith }
 
-pub first-in : (B : List ℕ) (i n : ℕ) → AtomsIn inBook B i n → 0 < n → AtomIn desk B i
-first-in B i n a h =
+pub first-atom-in : (B : List ℕ) (i n : ℕ) → AtomsIn inBook B i n → 0 < n → AtomIn desk B i
+first-atom-in B i n a h =
     let d = in-wider inBook desk book-desk desk-apart B i n a in
     record { fits = omega (arith, d .fits); sound = sound-more desk B i n h (d .sound) .0 }
 
@@ -109,7 +111,7 @@ grows-filling B A n g =
       room = omega (arith, g .room, ap (λ X. getD X 0 0) (g .bytes) ∙ held-count desk 56 A);
     }
 
-pub filling-room : (A : List ℕ) (n : ℕ) → Filling A n → 0 < n → Room desk 56 A
+pub filling-room : (A : List ℕ) (n : ℕ) → Filling A n → 0 < n → RoomLeft desk 56 A
 filling-room A n f h = grows-room desk desk-apart 56 A (questionOf desk A) n (filling-grows A n f) h
 
 pub filling-put : (A R : List ℕ) (n : ℕ) (a : Atom) → Filling A n → 0 < n → AtomFits desk a
@@ -265,9 +267,9 @@ module _ (left book table upper : List ℕ) (p : Parts) (li : LeftIn left) (few 
         whole-bytes : R₂ ≡ heldIn desk 56 (L′ ++ B′)
         whole-bytes = e₂ ∙ ap (λ q. heldIn desk 56 (q ++ B′)) left-question
 
-        pub whole-sound : Sound desk R₂
+        pub whole-sound : SoundRecord desk R₂
         whole-sound =
-            subst (Sound desk) (sym whole-bytes)
+            subst (SoundRecord desk) (sym whole-bytes)
             (held-sound desk 56 (L′ ++ B′) desk-apart
             (record {
               some-atom = rw whole-count (omega (arith, ru .some-body));

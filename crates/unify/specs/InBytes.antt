@@ -1,5 +1,5 @@
--- How the code holds rules, classes and an answer. The contracts of the lister's own functions are said with it; that
--- of `next` needs only `answered` and `ruleIn`.
+-- How the code holds rules, classes and an answer. The contracts of the lister's own functions are joinedTable with it; that
+-- of `next` needs only `foundOf` and `ruleIn`.
 use mathlib.Core.Path.{_≡_}
 use mathlib.Core.Bool.{Bool, true, false, cond}
 use mathlib.Core.List.{List, map}
@@ -31,17 +31,17 @@ unfoldable pub classesOf : List ℕ → Table
 classesOf bytes = map termOf bytes
 
 -- what an attempt to merge says: classes, or that two constants would meet
-unfoldable pub said : Joined → Option Table
-said c = cond (c .ok) (some (classesOf (c .table))) none
+unfoldable pub joinedTable : Joined → Option Table
+joinedTable c = cond (c .ok) (some (classesOf (c .table))) none
 
 -- the rule of these parts
 abbrev pub ruleOf : List ℕ → Parts → Rule
 ruleOf B p = ruleIn B (p .body) (p .bodies) (p .head) (p .heads)
 
 -- what an answer holds: the choice's number and its rewriting as a record, or nothing
-abbrev pub answered : Option (ℕ × Question) → Found
-answered none = record { found = false; choice = 0; rewriting = replicate 56 255 }
-answered (some e) = record { found = true; choice = e .0; rewriting = heldIn desk 56 (e .1) }
+abbrev pub foundOf : Option (ℕ × Question) → Found
+foundOf none = record { found = false; choice = 0; rewriting = replicate 56 255 }
+foundOf (some e) = record { found = true; choice = e .0; rewriting = heldIn desk 56 (e .1) }
 
 -- a rule of a sound book: sound atoms, one to four in its head and no more in its body
 pub record RuleIn (B : List ℕ) (p : Parts) : Type 0 where

@@ -27,13 +27,13 @@ use Rattle.unification.proofs.Moved.{glue, glue-below, moved}
 use Rattle.unification.proofs.Valid.{valid-here, rewriting-holds, fresh-varlike, fresh-lonely}
 
 -- the rewriting that holds
-pub record Held (k : ℕ) (r : Rule) (Q F : Question) : Type 0 where
+pub record HeldBefore (k : ℕ) (r : Rule) (Q F : Question) : Type 0 where
   pub question : Question
   pub listed : question ∈ rewritings k r Q
   pub holds : Covers question F
 
 pub step-complete : (k : ℕ) (r : Rule) (Q F G : Question) → Below k Q → Applies r F G → Covers Q G
-    → Covers Q F ⊎ Held k r Q F
+    → Covers Q F ⊎ HeldBefore k r Q F
 unfolding moved
 step-complete k r Q F G below app cov = go (decide (someSent (c .choice)))
   where
@@ -90,7 +90,7 @@ step-complete k r Q F G below app cov = go (decide (someSent (c .choice)))
     inF : Covers P F
     inF = record { by = θ; sends = rewriting-holds r′ F L θ (u .classes) (u .near) (m .sends) (c .leaves) }
 
-    go : T (someSent (c .choice)) ⊎ T (not (someSent (c .choice))) → Covers Q F ⊎ Held k r Q F
+    go : T (someSent (c .choice)) ⊎ T (not (someSent (c .choice))) → Covers Q F ⊎ HeldBefore k r Q F
     go (inl t) =
         inr
         (record {

@@ -12,7 +12,7 @@ use Rattle.covering.specs.Term.{Atom, Question}
 use Rattle.covering.specs.Search.{Part, placeAtom, findMap}
 use Rattle.cover.specs.Candidates.{tried, coversOn, hasCandidate}
 use Rattle.covering.specs.Record.{Layout, size, atomAt, atomsAt, questionOf}
-use Rattle.cover.specs.Held.{partOf}
+use Rattle.cover.specs.HeldMap.{partOf}
 use Rattle.covering.proofs.Places.{atoms-none, atoms-more}
 use Rattle.cover.proofs.Maps.{part-nowhere}
 

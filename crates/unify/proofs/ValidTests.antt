@@ -17,9 +17,10 @@ use Rattle.covering.proofs.Lists.{map-none}
 use Rattle.covering.proofs.Tests.{either}
 use Rattle.covering.proofs.Terms.{on-atom-fixed, terms-on}
 use Rattle.covering.specs.Rule.{Rule}
-use Rattle.unification.specs.Step.{up, move, isVar, memTerm, isUnknown, guarded, safe}
+use Rattle.unification.specs.Step.{up, move, memTerm, isUnknown, guarded, safe}
+use Rattle.covering.specs.Term.{isVar}
 use Rattle.unify.specs.Table.{Table, look, tabled}
-use Rattle.unify.specs.Held.{ruleIn, classesOf}
+use Rattle.unify.specs.InBytes.{ruleIn, classesOf}
 use Rattle.covering.proofs.Lists.{all-append}
 
 -- a byte moved up by k
@@ -71,19 +72,19 @@ tabled-look m (var n) = refl
 tabled-look m (con c) = refl
 
 -- whether a term is z or in another class than the one that rep stands for
-abbrev pub apart : Sub → Term → Term → Term → Bool
-apart σ z rep t = eqTerm t z || not (eqTerm (on-term σ t) rep)
+abbrev pub apartFrom : Sub → Term → Term → Term → Bool
+apartFrom σ z rep t = eqTerm t z || not (eqTerm (on-term σ t) rep)
 
 abbrev pub apartByte : List ℕ → ℕ → ℕ → Term → Bool
-apartByte table z rep = apart (tabled (classesOf table)) (termOf z) (termOf rep)
+apartByte table z rep = apartFrom (tabled (classesOf table)) (termOf z) (termOf rep)
 
 -- by bytes: x stands for the term's class
 module _ (σ : Sub) (t z rep : ℕ) where
-  pub apart-itself : t ≡ z → apart σ (termOf z) (termOf rep) (termOf t) ≡ true
+  pub apart-itself : t ≡ z → apartFrom σ (termOf z) (termOf rep) (termOf t) ≡ true
   apart-itself e = rw (term-same t z ∙ eq-eqb t z e)
 
   pub apart-class : (x : ℕ) → (t ≡ z → ⊥) → termOf x ≡ on-term σ (termOf t)
-      → apart σ (termOf z) (termOf rep) (termOf t) ≡ not (eqb x rep)
+      → apartFrom σ (termOf z) (termOf rep) (termOf t) ≡ not (eqb x rep)
   apart-class x ne is =
       ap₂
       (λ (a b : Bool). a || not b)
@@ -96,50 +97,50 @@ leftIn bytes = atomsAt desk bytes 1 (getD bytes 0 0)
 
 -- a term of a rule that is moved by k is safe: in the order of the tests
 module _ (m : Table) (k : ℕ) (L : Question) (r : Rule) (z rep : Term) (is : rep ≡ look m z) where
-  abbrev pub Apart : ℕ → Question → Bool
-  Apart i A = all (apart (tabled m) z rep) (terms (on-question (up i) A))
+  abbrev pub ApartAtoms : ℕ → Question → Bool
+  ApartAtoms i A = all (apartFrom (tabled m) z rep) (terms (on-question (up i) A))
 
   abbrev pub Safe : Bool
   Safe = safe (tabled m) (guarded L (move k r)) z
 
-  safe-split : Safe ≡ isVar rep && (Apart 0 L && (Apart k (r .body) && Apart k (r .head)))
+  safe-split : Safe ≡ isVar rep && (ApartAtoms 0 L && (ApartAtoms k (r .body) && ApartAtoms k (r .head)))
   safe-split =
-      ap (λ (y : Term). isVar y && all (apart (tabled m) z y) (guarded L (move k r))) (tabled-look m z ∙ sym is)
+      ap (λ (y : Term). isVar y && all (apartFrom (tabled m) z y) (guarded L (move k r))) (tabled-look m z ∙ sym is)
       ∙ ap
       (λ (b : Bool). isVar rep && b)
-      (all-append (apart (tabled m) z rep) (terms L) (terms ((move k r) .body) ++ terms ((move k r) .head))
+      (all-append (apartFrom (tabled m) z rep) (terms L) (terms ((move k r) .body) ++ terms ((move k r) .head))
       ∙ ap₂
       _&&_
-      (ap (λ (A : Question). all (apart (tabled m) z rep) (terms A)) (sym (up-none L)))
-      (all-append (apart (tabled m) z rep) (terms ((move k r) .body)) (terms ((move k r) .head))))
+      (ap (λ (A : Question). all (apartFrom (tabled m) z rep) (terms A)) (sym (up-none L)))
+      (all-append (apartFrom (tabled m) z rep) (terms ((move k r) .body)) (terms ((move k r) .head))))
 
   pub safe-constant : isVar rep ≡ false → Safe ≡ false
   safe-constant v = safe-split ∙ rw v
 
   -- x, y and b are the code's answers, of which is known what they say and what they are
-  module _ (v : isVar rep ≡ true) {x : Bool} (left : x ≡ Apart 0 L) where
+  module _ (v : isVar rep ≡ true) {x : Bool} (left : x ≡ ApartAtoms 0 L) where
     pub safe-left : x ≡ false → Safe ≡ false
     safe-left l = safe-split ∙ rw (v, sym left ∙ l)
 
-    module _ (l : x ≡ true) {y : Bool} (body : y ≡ Apart k (r .body)) where
+    module _ (l : x ≡ true) {y : Bool} (body : y ≡ ApartAtoms k (r .body)) where
       pub safe-body : y ≡ false → Safe ≡ false
       safe-body b = safe-split ∙ rw (v, sym left ∙ l, sym body ∙ b)
 
-      pub safe-head : y ≡ true → {b : Bool} → b ≡ Apart k (r .head) → b ≡ Safe
+      pub safe-head : y ≡ true → {b : Bool} → b ≡ ApartAtoms k (r .head) → b ≡ Safe
       safe-head b head = head ∙ sym (safe-split ∙ rw (v, sym left ∙ l, sym body ∙ b))
 
 -- the test of a head term
-abbrev pub allowed : Sub → Question → Rule → Term → Bool
-allowed σ L r z = not (isUnknown r z) || safe σ (guarded L r) z
+abbrev pub allowedTerm : Sub → Question → Rule → Term → Bool
+allowedTerm σ L r z = not (isUnknown r z) || safe σ (guarded L r) z
 
 abbrev pub allowedByte : List ℕ → List ℕ → ℕ → ℕ → ℕ → ℕ → List ℕ → Term → Bool
 allowedByte left book body bodies head heads table =
-    allowed (tabled (classesOf table)) (leftIn left) (move 32 (ruleIn book body bodies head heads))
+    allowedTerm (tabled (classesOf table)) (leftIn left) (move 32 (ruleIn book body bodies head heads))
 
 -- a head term t of a rule that is moved by k: in the order of the tests
 module _ (k : ℕ) (r : Rule) (t : Term) (σ : Sub) (L : Question) where
   abbrev pub Allowed : Bool
-  Allowed = allowed σ L (move k r) (on-term (up k) t)
+  Allowed = allowedTerm σ L (move k r) (on-term (up k) t)
 
   pub allowed-constant : isVar t ≡ false → Allowed ≡ true
   allowed-constant v = rw (up-var k t ∙ v)

@@ -9,14 +9,15 @@ use native.Mathlib.Omega.{arith}
 use lib.Dec.{T}
 use lib.ListN.{take}
 use Rattle.covering.specs.Term.{Question}
-use Rattle.exploration.specs.Run.{Test, Limits, State, oldest, takenUp, start, covered, without, appended}
+use Rattle.exploration.specs.Run.{Test, Limits, State, oldest, takenUp, start, covered, appended}
+use Rattle.exploration.specs.Run.{remaining}
 use Rattle.exploration.specs.Steps.{Position, between, within, Admitted, Reaches, begins, takes-up, drops, appends}
 use Rattle.exploration.specs.Steps.{stops, finishes}
 use Rattle.exploration.proofs.States.{explored, taken-last, last-stays}
 
-abbrev pub stateOf : Position → State
-stateOf (between s n) = s
-stateOf (within M Ps s n) = s
+abbrev pub stateAt : Position → State
+stateAt (between s n) = s
+stateAt (within M Ps s n) = s
 
 abbrev pub takenOf : Position → ℕ
 takenOf (between s n) = n
@@ -30,7 +31,7 @@ module _ (cov : Test) (lim : Limits) (steps : Question → List Question) (allow
     pub admits : (s : State) (P : Question) → Admitted cov lim s P → I s → I (appended cov s P)
 
   pub admissions-keep : {I : State → Type 0} → KeptByAdmission I → {p : Position} → Reaches cov lim steps allowed Q p
-      → I (stateOf p)
+      → I (stateAt p)
   admissions-keep k begins = k .first
   admissions-keep k (takes-up c e l) = k .takes _ _ e (admissions-keep k c)
   admissions-keep k (drops c t) = admissions-keep k c
@@ -85,7 +86,7 @@ module _ (cov : Test) (lim : Limits) (steps : Question → List Question) (allow
         first = tt;
         opens = λ s M e u. (explored s, taken-last s M e);
         drops = λ M P Ps s t l. l;
-        appends = λ M P Ps s a t l. (without cov P (l .0), last-stays cov s P M (l .0) t (l .1));
+        appends = λ M P Ps s a t l. (remaining cov P (l .0), last-stays cov s P M (l .0) t (l .1));
         stops = λ M P Ps s a t l. tt;
         closes = λ M s l. tt;
       })

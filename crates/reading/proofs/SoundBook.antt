@@ -20,10 +20,12 @@ use Rattle.reading.specs.Header.{inside, constantsRange, atomsRange, pla
 use Rattle.reading.specs.Header.{atomPlaces, variables}
 use Rattle.reading.specs.Book.{bodyCount, headCount, bodyAt, headAt, ruleEnd, rulesStart, ruleStart, placesOf}
 use Rattle.reading.specs.Book.{layoutOf}
-use Rattle.reading.specs.Refusals.{usedAllowed, placeAllowed, AtomWrong, relation, place, Applies}
+use Rattle.reading.specs.Refusals.{usedAllowed, placeAllowed, AtomWrong, relation, place}
+use Rattle.reading.specs.Refusals.{ApplicableToBook}
 use Rattle.reading.specs.Verdict.{IsVerdict, sound, refused, unless, inTable, offsetsRight, wrongPlaces}
 use Rattle.reading.specs.Verdict.{wrongRule}
-use Rattle.reading.specs.Verdict.{wrongInAtoms, wrongInRules, wrongByte, refuse, contents, verdict, Sound}
+use Rattle.reading.specs.Verdict.{wrongInAtoms, wrongInRules, wrongByte, refuse, contents, verdict}
+use Rattle.reading.specs.Verdict.{SoundBook}
 use Rattle.reading.proofs.Earliest.{Earliest, holds-nowhere}
 use Rattle.reading.proofs.Found.{PlacesFrom, places-earliest, AtomsFrom, atoms-earliest, RuleBytes}
 use Rattle.reading.proofs.Found.{bytes-earliest}
@@ -32,10 +34,10 @@ use Rattle.reading.proofs.Exact.{number-from, rules-end-at, verdict-exa
 use Rattle.reading.proofs.Known.{HeaderKnown, header-known}
 
 -- nothing applies to a sound book
-pub sound-none : (B : List ℕ) → Sound B → (n p : ℕ) → Applies B n p → ⊥
+pub sound-none : (B : List ℕ) → SoundBook B → (n p : ℕ) → ApplicableToBook B n p → ⊥
 sound-none B s = go (verdict-exact B)
   where
-    go : IsVerdict B (verdict B) → (n p : ℕ) → Applies B n p → ⊥
+    go : IsVerdict B (verdict B) → (n p : ℕ) → ApplicableToBook B n p → ⊥
     go (sound e f) = f
     go (refused a f) = λ n p b. let h = number-from B a in omega arith
 
@@ -58,7 +60,7 @@ record Passed (B : List ℕ) : Type 0 where
   in-rules : wrongInRules B (rulesStart B) (rules B) ≡ none
   in-question : wrongInAtoms B (questionAt B) (atoms B) ≡ none
 
-passed : (B : List ℕ) → Sound B → Passed B
+passed : (B : List ℕ) → SoundBook B → Passed B
 unfolding verdict contents wrongByte
 passed B s =
     let r₂ = refuse-zero 2 (unless (leb headerSize (length B)) 0) _ (omega arith) s in
@@ -79,7 +81,7 @@ passed B s =
     }
 
 -- a layout that has room for the book's atoms: the book's own has, and the desk's
-pub record Room (B : List ℕ) (L : Layout) : Type 0 where
+pub record BookRoom (B : List ℕ) (L : Layout) : Type 0 where
   pub relations-fit : relations B ≤ L .relations
   pub places-are : L .places ≡ atomPlaces
   pub variables-fit : variables ≤ L .variables
@@ -111,7 +113,7 @@ pub record SoundQuestion (B : List ℕ) : Type 0 where
   pub each : (j : ℕ) → j < atoms B → AtomRight B (questionAt B + atomSize * j)
 
 module _ (B : List ℕ) where
-  pub own-room : Room B (layoutOf B)
+  pub own-room : BookRoom B (layoutOf B)
   own-room =
       record {
         relations-fit = omega arith;
@@ -120,7 +122,7 @@ module _ (B : List ℕ) where
         constants-fit = omega arith;
       }
 
-  used-term : (L : Layout) → Room B L → (b : ℕ) → T (usedAllowed (constants B) b) → T (isTerm L b)
+  used-term : (L : Layout) → BookRoom B L → (b : ℕ) → T (usedAllowed (constants B) b) → T (isTerm L b)
   used-term L r b t = go (or-cases (ltb b variables) (leb 128 b && ltb b (128 + constants B)) t)
     where
       go : T (ltb b variables) ⊎ T (leb 128 b && ltb b (128 + constants B)) → T (isTerm L b)
@@ -147,7 +149,7 @@ module _ (B : List ℕ) where
         (le-ltb w (placesOf B (byte B i)) l)
         (a .places w m))
 
-    pub right-atom : (L : Layout) → Room B L → T (isAtom L B i)
+    pub right-atom : (L : Layout) → BookRoom B L → T (isAtom L B i)
     right-atom L r =
         is-atom L B i (placesOf B (byte B i)) (omega (arith, a .relation, r .relations-fit)) (a .some-place)
         (omega (arith, a .few-places, r .places-are)) (λ w l. used-term L r _ (used-place w l))
@@ -169,7 +171,7 @@ module _ (B : List ℕ) where
                 omega arith
 
   -- n atoms from i on, each of them right
-  pub right-atoms : (L : Layout) → Room B L → (i n : ℕ) → ((j : ℕ) → j < n → AtomRight B (i + atomSize * j))
+  pub right-atoms : (L : Layout) → BookRoom B L → (i n : ℕ) → ((j : ℕ) → j < n → AtomRight B (i + atomSize * j))
       → T (areAtoms L B i n)
   right-atoms L r i n f = are-atoms L B i n (λ j l. subst at (spread j) (right-atom (f j l) L r))
     where
@@ -179,7 +181,7 @@ module _ (B : List ℕ) where
       spread : (j : ℕ) → i + atomSize * j ≡ i + size L * j
       spread j = ap (λ (w : ℕ). i + (1 + w) * j) (sym (r .places-are))
 
-  module _ (s : Sound B) where
+  module _ (s : SoundBook B) where
     -- the header's numbers
     pub sound-header : HeaderKnown B (headerOf B)
     sound-header = header-known B (passed B s .table) (passed B s .offsets)
@@ -187,7 +189,7 @@ module _ (B : List ℕ) where
     pub sound-long : headerSize ≤ length B
     sound-long = leb→le _ _ (passed B s .long)
 
-    pub desk-room : Room B desk
+    pub desk-room : BookRoom B desk
     desk-room =
         let k = sound-header in
         record {
@@ -284,7 +286,7 @@ module _ (B : List ℕ) where
             (atoms-earliest B (questionAt B) (atoms B)))
 
     -- the atoms of rules and question in the form of `cover`'s records, for the desk's layout as for the book's own
-    module _ (L : Layout) (room : Room B L) where
+    module _ (L : Layout) (room : BookRoom B L) where
       pub sound-body : (k : ℕ) → k < rules B
           → T (areAtoms L B (bodyAt B (ruleStart B k)) (bodyCount B (ruleStart B k)))
       sound-body k l = right-atoms L room _ _ (sound-rule k l .body)

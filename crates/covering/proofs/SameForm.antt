@@ -8,7 +8,7 @@ use Prim.Native.Nat.{ℕ, zero, suc}
 use lib.Dec.{T, eqb}
 use Rattle.covering.specs.Lists.{_∈_, keep}
 use Rattle.covering.specs.Term.{Term, var, con, Atom, Question, Sub, on-term, on-atom, on-question, terms, eqTerm}
-use Rattle.covering.specs.Term.{eqAtom}
+use Rattle.covering.specs.Term.{eqAtom, isVar}
 use Rattle.covering.specs.Form.{dedup, firsts, index, numbering, renumber, form}
 use Rattle.covering.proofs.Lists.{keep-out, keep-same, keep-map, map-same, map-none}
 use Rattle.covering.proofs.Tests.{same-bool}
@@ -57,10 +57,6 @@ dedup-on s (a ∷ A) =
     (λ (l : Question). on-atom s a ∷ l)
     (ap (keep (λ b. not (eqAtom (on-atom s a) b))) (dedup-on s A)
     ∙ keep-map (λ b. not (eqAtom (on-atom s a) b)) (on-atom s) (sift (alike-atoms s) A))
-
-abbrev pub isVar : Term → Bool
-isVar (var n) = true
-isVar (con c) = false
 
 abbrev num : Term → ℕ
 num (var n) = n
