@@ -10,7 +10,7 @@ ghost use Rattle.reading.specs.Verdict.{verdict};
 ghost use Rattle.reading.specs.Verdict.{SoundBook};
 ghost use Rattle.book.specs.Parts.{StartsAt, partsAt};
 ghost use Rattle.covering.specs.Record.{desk};
-ghost use Rattle.cover.specs.Buffer.{heldIn};
+ghost use Rattle.covering.specs.Buffer.{heldIn};
 ghost use Rattle.reading.specs.Book.{bookOf};
 use judge::contents;
 use judge::in_table;

@@ -6,10 +6,6 @@ use Rattle.cover.proofs.desk.covers.Reads as covers-reads
 use Rattle.cover.proofs.desk.keep.Reads as keep-reads
 use Rattle.cover.proofs.search.covers_sound.Reads as covers-sound-reads
 use Rattle.cover.proofs.search.covers_on.Reads as covers-on-reads
-use Rattle.cover.proofs.formed.in_form.Reads as in-form-reads
-use Rattle.cover.proofs.formed.no_atoms.Reads as no-atoms-reads
-use Rattle.cover.proofs.formed.put_atom.Reads as put-atom-reads
-use Rattle.cover.proofs.formed.put_on.Reads as put-on-reads
 
 pub covers-determined : (κs : _) (a : _) (r s : _) (x y : _) → covers-reads.Learnt κs a r x
     → covers-reads.Learnt κs a s y → r ≡ s
@@ -27,19 +23,3 @@ covers-sound-determined κs a r s x y p q = p ∙ sym q
 pub covers-on-determined : (κs : _) (a : _) (r s : _) (x y : _) → covers-on-reads.Learnt κs a r x
     → covers-on-reads.Learnt κs a s y → r ≡ s
 covers-on-determined κs a r s x y p q = p ∙ sym q
-
-pub in-form-determined : (κs : _) (a : _) (r s : _) (x y : _) → in-form-reads.Learnt κs a r x
-    → in-form-reads.Learnt κs a s y → r ≡ s
-in-form-determined κs a r s x y p q = p ∙ sym q
-
-pub no-atoms-determined : (κs : _) (a : _) (r s : _) (x y : _) → no-atoms-reads.Learnt κs a r x
-    → no-atoms-reads.Learnt κs a s y → r ≡ s
-no-atoms-determined κs a r s x y p q = p ∙ sym q
-
-pub put-atom-determined : (κs : _) (a : _) (r s : _) (x y : _) → put-atom-reads.Learnt κs a r x
-    → put-atom-reads.Learnt κs a s y → r ≡ s
-put-atom-determined κs a r s x y p q = p ∙ sym q
-
-pub put-on-determined : (κs : _) (a : _) (r s : _) (x y : _) → put-on-reads.Learnt κs a r x
-    → put-on-reads.Learnt κs a s y → r ≡ s
-put-on-determined κs a r s x y p q = p ∙ sym q

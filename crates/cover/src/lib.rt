@@ -2,17 +2,12 @@
 // atom: a relation number, then four places, of which the first one to four hold a variable (0 to 63) or a constant
 // (128 to 254) and the rest 255.
 mod desk;
-mod formed;
 mod place;
 mod record;
 mod search;
 
 pub use desk::covers;
 pub use desk::keep;
-pub use formed::in_form;
-pub use formed::no_atoms;
-pub use formed::put_atom;
-pub use formed::put_on;
 pub use search::covers_on;
 pub use search::covers_sound;
 

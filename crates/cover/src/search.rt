@@ -13,7 +13,7 @@ ghost use Rattle.covering.specs.Record.{desk, isAtom, atomAt, atomsAt, question
 ghost use Rattle.covering.specs.Record.{SoundRecord};
 ghost use Rattle.cover.specs.HeldMap.{partOf};
 ghost use Rattle.cover.specs.HeldMap.{placedMap};
-ghost use Rattle.cover.specs.Buffer.{AtomsIn};
+ghost use Rattle.covering.specs.Buffer.{AtomsIn};
 
 // Whether the atom of first at i can be placed on one of the w atoms of second, as the map is now.
 fn has_candidate(first: &[u8], second: &[u8], i: usize, w: usize, map: [u8; 64]) -> bool

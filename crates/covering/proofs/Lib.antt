@@ -24,3 +24,6 @@ pub mod Fitting
 pub mod Wider
 -- the desk's answers
 pub mod Answers
+-- records and atoms in a buffer
+pub mod Padded
+pub mod Within

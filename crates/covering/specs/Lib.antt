@@ -8,3 +8,5 @@ pub mod Search
 pub mod Form
 pub mod Record
 pub mod Desk
+-- What only contracts of the code above are said with; the definitions above do not need it.
+pub mod Buffer

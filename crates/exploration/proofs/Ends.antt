@@ -15,8 +15,8 @@ use Rattle.covering.proofs.Tests.{decide, T→true, T→false}
 use Rattle.exploration.specs.Run.{Test, Limits, State, Why, none-left, Admission, stopped, Pass, passed, failed}
 use Rattle.exploration.specs.Run.{Outcome, refused, onPass, oldest, takenUp, start, covered, appended}
 use Rattle.exploration.specs.Run.{admit, through, exploring, runBy}
-use Rattle.exploration.specs.Steps.{Position, between, within, Admitted, Reaches, begins, takes-up, drops, appends}
-use Rattle.exploration.specs.Steps.{stops, finishes, Ends, completes, eight, nine, ten}
+use Rattle.exploration.specs.Steps.{Position, between, within, Admitted, Reaches, begins, takes-up, drops}
+use Rattle.exploration.specs.Steps.{appends, stops, finishes, Ends, completes, eight, nine, ten}
 use Rattle.exploration.proofs.Admits.{Admits, was-covered, was-long, was-full, was-admitted, admits, admit-is}
 use Rattle.exploration.proofs.Admits.{through-none}
 use Rattle.exploration.proofs.Turns.{turn-dropped, turn-refused, turn-appended, turn-stopped}
@@ -71,8 +71,10 @@ module _ (cov : Test) (lim : Limits) (steps : Question → List Question) (allow
 
       go : {a : Admission} → Admits cov lim s P a → Rest → Passes (through cov lim M (P ∷ Ps) s)
       go (was-covered t) rest = subst Passes (sym (dropped-turn M P Ps s t)) (rest s (drops c t))
-      go (was-long u l) rest = subst Passes (sym (turn-refused cov lim M P Ps s (admit-is cov lim (was-long u l)))) (eight c u l)
-      go (was-full m l) rest = subst Passes (sym (turn-refused cov lim M P Ps s (admit-is cov lim (was-full m l)))) (nine c m l)
+      go (was-long u l) rest =
+          subst Passes (sym (turn-refused cov lim M P Ps s (admit-is cov lim (was-long u l)))) (eight c u l)
+      go (was-full m l) rest =
+          subst Passes (sym (turn-refused cov lim M P Ps s (admit-is cov lim (was-full m l)))) (nine c m l)
       go (was-admitted m) rest = added m (decide (cov P M)) rest
 
   -- If it passes, the run comes to the state that it leaves.

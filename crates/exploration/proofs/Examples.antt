@@ -1,6 +1,9 @@
--- The starred examples hold, and the books of `specs/Examples` are answered as it says, by computation.
-use mathlib.Core.Path.{_≡_, refl}
-use mathlib.Core.List.{map}
+-- The examples of `specs/Examples` and `specs/Others` hold, by computation. Each has its own `ok`, which is `refl`, so
+-- that a wrong one is named. Whatever meets the contract gives what a book's example states.
+use mathlib.Core.Path.{_≡_, refl as ok, _∙_, ap}
+use mathlib.Core.List.{List}
+use Prim.Native.Nat.{ℕ}
+use lib.ListN.{length, take, length-replicate}
 use Rattle.covering.specs.Search.{covers, firstMap, findMap}
 use Rattle.covering.specs.Form.{form}
 use Rattle.covering.specs.Record.{termOf, argsAt, atomAt, atomsAt, atomBytes, recordBytes}
@@ -11,20 +14,28 @@ use Rattle.reading.specs.Verdict.{wrongInAtoms, wrongInRules, wrongByte, conten
 use Rattle.unification.specs.Step.{step, listed, rewritings}
 use Rattle.exploration.specs.Run.{admit, through, exploring, runBy, run}
 use Rattle.exploration.specs.Union.{total, unionBytes}
-use Rattle.exploration.specs.Answer.{result, answerOf}
-use Rattle.exploration.specs.Examples.{shown, examples, more-examples, shownBook, books}
+use Rattle.exploration.specs.Answer.{Result, result, answer, written, answerOf, writtenOf, Answers}
+use Rattle.exploration.specs.Examples.{BookExample, answering, outputOf, Right, Each, examples}
+use Rattle.exploration.specs.Others.{more-examples}
 
-pub examples-hold : map shown examples ≡ examples
+pub examples-hold : Each Right examples
 unfolding examples covers firstMap findMap form step listed rewritings admit through exploring runBy run
-examples-hold = refl
+examples-hold = (ok, (ok, (ok, (ok, (ok, (ok, (ok, (ok, (ok, (ok, (ok, (ok, (ok, tt)))))))))))))
 
-pub more-examples-hold : map shown more-examples ≡ more-examples
+pub more-examples-hold : Each Right more-examples
 unfolding more-examples covers firstMap findMap form step listed rewritings admit through exploring runBy run
-more-examples-hold = refl
-
-pub books-answered : map shownBook books ≡ books
-unfolding books covers firstMap findMap form step listed rewritings admit through exploring runBy run
     termOf argsAt atomAt atomsAt atomBytes recordBytes word ruleAt rulesFrom after bookOf
     inTable offsetsRight wrongPlaces ruleRight wrongRule wrongPlace wrongInAtom wrongInAtoms wrongInRules wrongByte
-    contents verdict total unionBytes result answerOf
-books-answered = refl
+    contents verdict total unionBytes result
+more-examples-hold =
+    (ok, (ok, (ok, (ok, (ok, (ok, (ok, (ok, (ok, (ok, (ok, (ok, (ok, (ok, (ok, (ok, (ok, (ok, tt))))))))))))))))))
+
+pub contract-gives : (e : BookExample) → Right (answering e) → {n p : ℕ} {after : List ℕ}
+    → Answers (e .book) (outputOf e) n p after → ((n, p) ≡ e .answer) × (take (length (e .bytes)) after ≡ e .bytes)
+unfolding answerOf writtenOf
+contract-gives e right c =
+    let same = ap (result (e .book)) (length-replicate {A = ℕ} (e .room) 7) in (
+      c .answers ∙ ap answer same ∙ ap (λ (x : (ℕ × ℕ) × List ℕ). x .0) right,
+      ap (take (length (e .bytes))) (c .writes ∙ ap (λ (r : Result). written r (outputOf e)) same)
+          ∙ ap (λ (x : (ℕ × ℕ) × List ℕ). x .1) right,
+    )

@@ -106,7 +106,11 @@ module _ {book out : List ℕ} {number place : ℕ} {after : List ℕ} (given : 
     pub explored-is : exploredOf after ≡ whole-given .explored
     explored-is = ap exploredOf bytes-are ∙ explored-read U (whole-given .explored) (drop (total U) out)
 
-    -- "0 means complete, and the place is the total length written"; "It takes at most .. 2,632 bytes."
+    -- "0 means complete, and the place is the total length written."
+    pub the-place : place ≡ total (membersOf after)
+    the-place = total-is ∙ ap total (sym members-are)
+
+    -- "It takes at most .. 2,632 bytes."
     pub place-most : place ≤ outputSize
     place-most =
         let h = total-most U (members-most book (whole-given .sound) (whole-given .ran)) (λ M m. kind M m .fits .most) in
@@ -123,9 +127,13 @@ module _ {book out : List ℕ} {number place : ℕ} {after : List ℕ} (given : 
         (union-length U (whole-given .explored) ∙ sym total-is)
         ∙ ap (λ (n : ℕ). drop n out) (sym total-is)
 
-    -- the bytes written say the run's members and its count of explored questions
-    pub the-run : outcomeOf book ≡ complete (membersOf after) (exploredOf after)
-    the-run = whole-given .ran ∙ ap₂ complete (sym members-are) (sym explored-is)
+    -- the bytes written say the run's members and its count of explored questions, computed and in single steps
+    pub the-outcome : outcomeOf book ≡ complete (membersOf after) (exploredOf after)
+    the-outcome = whole-given .ran ∙ ap₂ complete (sym members-are) (sym explored-is)
+
+    pub the-run : Completes book (length out) (membersOf after) (exploredOf after)
+    the-run =
+        completes-exactly book (length out) _ _ .0 (whole-given .is ∙ ap₂ union (sym members-are) (sym explored-is))
 
     pub the-bytes : take place after ≡ unionBytes (membersOf after) (exploredOf after)
     the-bytes =
@@ -156,3 +164,12 @@ module _ {book out : List ℕ} {number place : ℕ} {after : List ℕ} (given : 
     λ zero. let w = whole-given zero in (w .members, w .explored, completes-exactly book (length out) _ _ .0 (w .is)),
     λ c. number-is ∙ ap (λ (r : Result). answer r .0) (completes-exactly book (length out) (c .0) (c .1) .1 (c .2)),
   )
+
+  -- whenever the run completes, its members and its count are given
+  pub every-run : {U : List Question} {k : ℕ} → Completes book (length out) U k
+      → (number ≡ 0) × (membersOf after ≡ U) × (exploredOf after ≡ k)
+  every-run {U} {k} c =
+      let zero = complete-exactly .1 (U, k, c) in
+      let is = completes-exactly book (length out) U k .1 c in
+      let same : union (whole-given zero .members) (whole-given zero .explored) ≡ union U k = sym (whole-given zero .is) ∙ is in
+      (zero, members-are zero ∙ (cc), explored-is zero ∙ (cc))

@@ -16,6 +16,8 @@ pub mod Raised
 -- demand 3 over lists, and the run of a sound book
 pub mod Derived
 pub mod OfBook
+-- how a question that is taken up is rewritten
+pub mod Explored
 -- the union as bytes
 pub mod UnionBytes
 pub mod Members

@@ -27,8 +27,8 @@ use Rattle.exploration.specs.Run.{limits, State, complete, start, apart,
 use Rattle.exploration.specs.Steps.{within, Reaches}
 use Rattle.exploration.specs.Chain.{SomeHolds, Derives, Reached}
 use Rattle.exploration.specs.Chain.{from-question, by-step}
-use Rattle.exploration.proofs.Small.{roomFor, RuleFits, fits-below, form-fits, rewriting-formed, rewriting-short}
-use Rattle.exploration.proofs.Small.{rewriting-fits}
+use Rattle.exploration.proofs.Small.{roomFor, RuleFits, fits-below, form-fits, rewriting-formed}
+use Rattle.exploration.proofs.Small.{rewriting-short, rewriting-fits}
 use Rattle.exploration.proofs.Covered.{taken-good}
 use Rattle.exploration.proofs.Left.{Left, complete-left, complete-most, complete-taken}
 use Rattle.exploration.proofs.Derived.{Union, union-answers}
@@ -148,7 +148,8 @@ module _ (B : List ℕ) where
     pub desk-fits : {M : Question} → Fits (layoutOf B) M → Fits desk M
     desk-fits f = fits-wider _ desk (wider 8 (omega arith)) (omega arith) f
 
-    pub rewriting-desk : (M : Question) → Fits (layoutOf B) M → (P : Question) → P ∈ allRewritings rulesOf M → Fits desk P
+    pub rewriting-desk : (M : Question) → Fits (layoutOf B) M → (P : Question) → P ∈ allRewritings rulesOf M
+        → Fits desk P
     rewriting-desk M m P x =
         let y = gather-out (λ r. rewritings apart r M) rulesOf x in
         let f = rules-fit (y .0) (y .1) in

@@ -6,5 +6,6 @@ pub mod Answer
 pub mod Refusals
 pub mod Chain
 pub mod Examples
+pub mod Others
 -- What only contracts of the code above are said with; the demands do not need it.
 pub mod Standing

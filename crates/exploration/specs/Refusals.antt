@@ -9,8 +9,8 @@ use Rattle.covering.specs.Term.{Question}
 use Rattle.covering.specs.Search.{covers}
 use Rattle.reading.specs.Book.{bookOf}
 use Rattle.reading.specs.Refusals.{ApplicableToBook}
-use Rattle.exploration.specs.Run.{limits, Why, refusalNumber, Outcome, complete, refused, allRewritings}
-use Rattle.exploration.specs.Steps.{Ends}
+use Rattle.exploration.specs.Run.{limits, State, Why, refusalNumber, Outcome, complete, refused, allRewritings}
+use Rattle.exploration.specs.Steps.{within, Reaches, Ends}
 use Rattle.exploration.specs.Union.{outputSize}
 
 -- "| no. | when | place |", 1 to 7
@@ -19,6 +19,15 @@ pub data Applicable (B : List ℕ) (room : ℕ) : ℕ → ℕ → Type 0 where
   one : room < outputSize → Applicable B room 1 0
   -- 2 to 7 are the book's
   of-book : {n p : ℕ} → ApplicableToBook B n p → Applicable B room n p
+
+-- the run of the book takes this question up: it comes to explore it, in some state and with some of its rewritings
+-- yet to come
+pub record Explores (B : List ℕ) (M : Question) : Type 0 where
+  pub yet : List Question
+  pub state : State
+  pub taken : ℕ
+  pub reaches : Reaches covers limits (allRewritings (bookOf B .rules)) (bookOf B .allowed) (bookOf B .question)
+      (within M yet state taken)
 
 -- the run of the book ends so
 abbrev pub RunEnds : List ℕ → Outcome → Type 0

@@ -22,10 +22,9 @@ use Rattle.reading.specs.Verdict.{SoundBook}
 use Rattle.reading.proofs.SoundBook.{sound-header, sound-rule, sound-question}
 use Rattle.reading.specs.Book.{ruleAt, rulesFrom, ruleStart}
 use Rattle.reading.proofs.Reading.{rules-none, rules-more}
-use Rattle.unify.specs.declared.Found.{Found}
-use Rattle.unify.specs.InBytes.{ruleOf, RuleIn, QuestionIn}
-use Rattle.unify.specs.InBytes.{foundOf}
-use Rattle.unify.proofs.FromBook.{rule-in, rule-is, found-within}
+use Rattle.lister.specs.declared.Found.{Found}
+use Rattle.lister.specs.Asking.{ruleOf, RuleIn, QuestionIn, foundOf}
+use Rattle.lister.proofs.FromBook.{rule-in, rule-is, found-within}
 use Rattle.unification.specs.Choice.{mostChoices}
 use Rattle.unification.specs.Step.{next}
 use Rattle.exploration.specs.Run.{apart}

@@ -10,7 +10,7 @@ use lib.ListN.{drop}
 use lib.Seq.{drop-drop}
 use Rattle.covering.specs.Term.{Question}
 use Rattle.covering.specs.Record.{desk}
-use Rattle.cover.specs.Buffer.{heldIn}
+use Rattle.covering.specs.Buffer.{heldIn}
 use Rattle.covering.proofs.Tests.{none≢some}
 use Rattle.covering.specs.Rule.{Rule}
 use Rattle.unification.specs.Step.{next}

@@ -9,13 +9,13 @@ use Rattle.reading.specs.Verdict.{SoundBook}
 use Rattle.exploration.specs.Union.{wordBytes, membersFrom, firstAt, outputSize, total, unionBytes}
 use Rattle.exploration.specs.Answer.{outcomeOf, Answers}
 use Rattle.exploration.proofs.Returns.{returns-refused, returns-union}
-use Rattle.explore.specs.declared.Extent.{Extent}
+use Rattle.admit.specs.declared.Extent.{Extent}
 use Rattle.explore.specs.declared.Ran.the-variants.{Complete, Refused}
-use Rattle.explore.specs.WorkingArray.{RanIs}
+use Rattle.explore.specs.Exploring.{RanIs}
 use Rattle.exploration.proofs.UnionBytes.{headerBytes}
 use Rattle.exploration.proofs.Members.{members-count}
-use Rattle.explore.proofs.Holding.{held-union}
-use Rattle.explore.proofs.Array.{len-most}
+use Rattle.admit.proofs.Holding.{held-union}
+use Rattle.admit.proofs.Array.{len-most}
 
 module _ (book out : List ℕ) (roomy : outputSize ≤ length out) (sound : SoundBook book) where
   pub returns-stopped : (X : List ℕ) (k p : ℕ) → RanIs (outcomeOf book) X (Refused k p) → Answers book out k p out

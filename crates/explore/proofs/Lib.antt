@@ -1,17 +1,7 @@
--- The laws that the exploration's functions cite: of the working array, of what a turn of each loop keeps, of what each
--- return shows.
-
--- records, and bytes copied
+-- The laws that the exploration's functions cite: of the records handed on, of what a turn of each loop keeps, of what
+-- each return shows.
 pub mod Records
 pub mod Pasting
--- the working array that holds a state, and the search in it
-pub mod Holding
-pub mod Finding
-pub mod Stand
--- removing; admitting
-pub mod Removal
-pub mod Array
-pub mod Fates
 -- the next rewriting, and those yet to come
 pub mod Among
 pub mod Coming

@@ -9,13 +9,14 @@ use Rattle.covering.specs.Lists.{_∈_}
 use Rattle.covering.specs.Term.{Question}
 use Rattle.covering.specs.Search.{covers}
 use Rattle.covering.specs.Rule.{Rule}
-use Rattle.explore.specs.declared.Extent.{Extent}
+use Rattle.admit.specs.declared.Extent.{Extent}
 use Rattle.explore.specs.declared.Taken.{Taken}
-use Rattle.explore.specs.declared.Fate.the-variants.{Dropped, Appended, Refused}
+use Rattle.admit.specs.declared.Fate.the-variants.{Dropped, Appended, Refused}
 use Rattle.explore.specs.declared.Explored.the-variants.{Passed, Refused as NotExplored}
 use Rattle.exploration.specs.Run.{limits, through, allRewritings}
-use Rattle.explore.specs.WorkingArray.{Working, FateIs, ExploredIs}
-use Rattle.explore.specs.WorkingArray.{stateIn}
+use Rattle.admit.specs.WorkingArray.{Working, FateIs}
+use Rattle.explore.specs.Exploring.{ExploredIs}
+use Rattle.admit.specs.WorkingArray.{stateIn}
 use Rattle.exploration.proofs.Admits.{through-none}
 use Rattle.exploration.proofs.Turns.{turn-dropped, turn-refused, turn-appended, turn-stopped}
 use Rattle.explore.proofs.Coming.{coming, coming-all, Given}

@@ -7,30 +7,18 @@ use Rattle.covering.specs.Lists.{_∈_}
 use Rattle.covering.specs.Term.{Question}
 use Rattle.covering.specs.Record.{desk, questionOf, Fits}
 use Rattle.covering.specs.Record.{SoundRecord}
-use Rattle.cover.specs.Buffer.{heldIn}
-use Rattle.covering.proofs.Fitting.{sound-fits}
-use Rattle.cover.proofs.Padded.{held-question, held-sound}
-use Rattle.covering.proofs.RoundTrip.{desk-apart}
+use Rattle.covering.specs.Buffer.{heldIn}
 use Rattle.covering.proofs.Wider.{fits-wider}
+use Rattle.covering.proofs.Padded.{desk-question, desk-sound}
 use Rattle.reading.specs.Book.{bookOf, layoutOf}
 use Rattle.reading.specs.Verdict.{SoundBook}
 use Rattle.reading.proofs.SoundBook.{desk-room}
 use Rattle.reading.proofs.Fits.{question-record}
-use Rattle.unify.specs.InBytes.{inBook, QuestionIn}
-use Rattle.unify.proofs.FromBook.{held-in, own-wider}
+use Rattle.unify.specs.InBytes.{inBook}
+use Rattle.lister.specs.Asking.{QuestionIn}
+use Rattle.lister.proofs.FromBook.{held-in, own-wider}
 use Rattle.exploration.specs.Run.{allRewritings}
 use Rattle.exploration.proofs.OfBook.{desk-fits, rewriting-desk}
-
--- a sound record's question fits
-pub record-fits : (R : List ℕ) → SoundRecord desk R → Fits desk (questionOf desk R)
-record-fits R s = sound-fits desk desk-apart R (omega arith) s
-
--- the record of a question that fits
-pub record-sound : (A : Question) → Fits desk A → SoundRecord desk (heldIn desk 56 A)
-record-sound A f = held-sound desk 56 A desk-apart f (omega (arith, f .most))
-
-pub record-question : (A : Question) → Fits desk A → questionOf desk (heldIn desk 56 A) ≡ A
-record-question A f = held-question desk 56 A desk-apart (f .each)
 
 -- the book's question fits
 pub question-desk : (B : List ℕ) → SoundBook B → Fits desk (bookOf B .question)
@@ -39,10 +27,10 @@ question-desk B s = question-record B desk (desk-room B s) s (omega arith)
 module _ (B : List ℕ) (s : SoundBook B) (M : Question) (m : Fits (layoutOf B) M) where
   -- the record of a member can be handed to covering and to the lister
   pub member-question : questionOf desk (heldIn desk 56 M) ≡ M
-  member-question = record-question M (desk-fits B s m)
+  member-question = desk-question M (desk-fits B s m)
 
   pub member-sound : SoundRecord desk (heldIn desk 56 M)
-  member-sound = record-sound M (desk-fits B s m)
+  member-sound = desk-sound M (desk-fits B s m)
 
   pub member-in : QuestionIn (heldIn desk 56 M)
   member-in = held-in M (fits-wider (layoutOf B) inBook (own-wider B s) (omega arith) m)
@@ -50,7 +38,7 @@ module _ (B : List ℕ) (s : SoundBook B) (M : Question) (m : Fits (layoutOf B) 
   -- and that of a rewriting of it to covering
   module _ (P : Question) (x : P ∈ allRewritings (bookOf B .rules) M) where
     pub rewriting-sound : SoundRecord desk (heldIn desk 56 P)
-    rewriting-sound = record-sound P (rewriting-desk B s M m P x)
+    rewriting-sound = desk-sound P (rewriting-desk B s M m P x)
 
     pub rewriting-question : questionOf desk (heldIn desk 56 P) ≡ P
-    rewriting-question = record-question P (rewriting-desk B s M m P x)
+    rewriting-question = desk-question P (rewriting-desk B s M m P x)

@@ -11,14 +11,14 @@ use Rattle.covering.specs.Search.{covers}
 use Rattle.covering.specs.Form.{form}
 use Rattle.covering.specs.Record.{desk, questionOf, recordBytes, Fits}
 use Rattle.covering.specs.Record.{SoundRecord}
-use Rattle.cover.specs.Buffer.{heldIn}
+use Rattle.covering.specs.Buffer.{heldIn}
 use Rattle.covering.proofs.Lengths.{question-count, record-long}
 use Rattle.reading.specs.declared.Header.{Header}
 use Rattle.reading.specs.Header.{HeaderRead}
 use Rattle.reading.specs.Book.{bookOf, layoutOf}
 use Rattle.reading.specs.Verdict.{SoundBook}
 use Rattle.reading.proofs.Reading.{book-allowed}
-use Rattle.explore.specs.declared.Extent.{Extent}
+use Rattle.admit.specs.declared.Extent.{Extent}
 use Rattle.explore.specs.declared.Explored.{Explored}
 use Rattle.explore.specs.declared.Explored.the-variants.{Passed, Refused}
 use Rattle.explore.specs.declared.Ran.the-variants.{Complete, Refused as NotRun}
@@ -27,13 +27,15 @@ use Rattle.exploration.specs.Run.{takenUp, start, through, exploring, allRewrit
 use Rattle.exploration.specs.Steps.{between, within, Reaches, begins, takes-up}
 use Rattle.exploration.specs.Union.{firstAt, outputSize}
 use Rattle.exploration.specs.Answer.{outcomeOf}
-use Rattle.explore.specs.WorkingArray.{Working, MemberIn, ExploredIs, RanIs}
-use Rattle.explore.specs.WorkingArray.{HoldsState, stateIn}
-use Rattle.explore.proofs.Records.{record-sound, record-question, member-question}
+use Rattle.admit.specs.WorkingArray.{Working}
+use Rattle.explore.specs.Exploring.{MemberIn, ExploredIs, RanIs}
+use Rattle.admit.specs.WorkingArray.{HoldsState, stateIn}
+use Rattle.explore.proofs.Records.{member-question}
+use Rattle.covering.proofs.Padded.{desk-sound, desk-question}
 use Rattle.exploration.proofs.UnionBytes.{total-is}
-use Rattle.explore.proofs.Holding.{held-appended}
+use Rattle.admit.proofs.Holding.{held-appended}
 use Rattle.exploration.proofs.Members.{members-count}
-use Rattle.explore.proofs.Array.{state-held, held-working}
+use Rattle.admit.proofs.Array.{state-held, held-working}
 use Rattle.exploration.proofs.Turns.{turn-complete, turn-ten, turn-explores}
 use Rattle.exploration.proofs.Ends.{through-reaches}
 use Rattle.exploration.proofs.OfBook.{Member, run-begins, first-member, taken-member, desk-fits}
@@ -121,10 +123,10 @@ module _ (B : List ℕ) where
     -- as `append` is given it
     module _ (R : List ℕ) (is : R ≡ heldIn desk 56 (form (bookOf B .question))) where
       pub first-sound : SoundRecord desk R
-      first-sound = subst (SoundRecord desk) (sym is) (record-sound P fits)
+      first-sound = subst (SoundRecord desk) (sym is) (desk-sound P fits)
 
       first-question : questionOf desk R ≡ form (bookOf B .question)
-      first-question = ap (questionOf desk) is ∙ record-question P fits
+      first-question = ap (questionOf desk) is ∙ desk-question P fits
 
       pub first-fits : firstAt + (1 + getD R 0 0 * 5) ≤ length W
       first-fits = omega (arith, size, question-count desk R, ap length first-question, short)

@@ -1,3 +1,3 @@
--- How the exploration's own functions hold the run's state. `run`'s contract needs none of it: `exploration` says it.
+-- What only the contracts of this crate's own functions are said with; that of `run` cites `exploration` alone.
 pub mod Taking
-pub mod WorkingArray
+pub mod Exploring

@@ -6,7 +6,7 @@ use Prim.Native.Nat.{ℕ, suc}
 use lib.ListN.{replicate}
 use Rattle.covering.specs.Term.{Question}
 use Rattle.covering.specs.Record.{desk}
-use Rattle.cover.specs.Buffer.{heldIn}
+use Rattle.covering.specs.Buffer.{heldIn}
 use Rattle.covering.specs.Rule.{Rule}
 use Rattle.unification.specs.Step.{next}
 use Rattle.explore.specs.declared.Taken.{Taken}

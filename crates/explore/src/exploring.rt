@@ -5,12 +5,13 @@ ghost use Rattle.reading.specs.Header.{rules as rulesOf};
 ghost use Rattle.reading.specs.Book.{bookOf};
 ghost use Rattle.reading.specs.Verdict.{SoundBook};
 ghost use Rattle.book.specs.Parts.{StartsAt};
-ghost use Rattle.explore.specs.WorkingArray.{Working, MemberIn, ExploredIs};
+ghost use Rattle.admit.specs.WorkingArray.{Working};
+ghost use Rattle.explore.specs.Exploring.{MemberIn, ExploredIs};
 use super::Explored;
-use super::Extent;
-use super::Fate;
-use super::admitting::admit;
 use super::taking_up::next_rewriting;
+use admit::Extent;
+use admit::Fate;
+use admit::admit;
 
 // Admits the member's rewritings, one after the other. If the member is itself removed its exploration stops at once,
 // after the append.

@@ -1,43 +1,15 @@
 // The exploration: one book in, the whole union or a numbered refusal out. What the run is, and what it is worth, stands
 // in `exploration`; specs/ says how the functions hold its state.
-mod admitting;
 mod exploring;
-mod removing;
-mod searching;
 mod taking_up;
 mod whole_run;
-mod working;
+mod written;
 
+use admit::Extent;
 pub use whole_run::run;
 
 // "It takes at most 8 + 64 x 41 = 2,632 bytes": what an output must have room for.
 pub const OUTPUT: usize = 2632;
-
-// "Offset of the first member (8)".
-pub const FIRST: usize = 8;
-
-// How far the working array is filled: where its members end, how many they are, and how many of them, from the first
-// on, are explored.
-pub struct Extent {
-    pub len: usize,
-    pub count: usize,
-    pub front: usize,
-}
-
-// Members passed in the removal: where the next one stands, where the next kept one goes, and how many were kept.
-pub struct Moved {
-    pub from: usize,
-    pub to: usize,
-    pub kept: usize,
-}
-
-// What becomes of one rewriting: a member covers it; it is appended, and the array is filled so far; or the run is
-// refused with that number.
-pub enum Fate {
-    Dropped,
-    Appended(Extent),
-    Refused(u8),
-}
 
 // The next rewriting: whether there is one, the numbers of its rule and of its choice, and its record at the front of
 // 56 bytes, the rest 255.

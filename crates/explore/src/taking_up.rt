@@ -4,18 +4,19 @@ ghost use Prim.Native.Nat.{_<_};
 ghost use lib.ListN.{drop};
 ghost use Rattle.covering.specs.Record.{desk, questionOf};
 ghost use Rattle.covering.specs.Record.{SoundRecord};
-ghost use Rattle.cover.specs.Buffer.{heldIn};
+ghost use Rattle.covering.specs.Buffer.{heldIn};
 ghost use Rattle.reading.specs.Book.{bookOf};
 ghost use Rattle.reading.specs.Header.{rules as rulesOf};
 ghost use Rattle.reading.specs.Verdict.{SoundBook};
 ghost use Rattle.book.specs.Parts.{StartsAt};
 ghost use Rattle.unification.specs.Choice.{mostChoices};
-ghost use Rattle.unify.specs.InBytes.{QuestionIn};
-ghost use Rattle.explore.specs.WorkingArray.{Working, OldestIs};
+ghost use Rattle.lister.specs.Asking.{QuestionIn};
+ghost use Rattle.admit.specs.WorkingArray.{Working};
+ghost use Rattle.explore.specs.Exploring.{OldestIs};
 ghost use Rattle.explore.specs.Taking.{nextAmong, taken};
-use super::Extent;
-use super::FIRST;
 use super::Taken;
+use admit::Extent;
+use admit::FIRST;
 
 // The record at the front of 56 bytes, the rest 255.
 fn copy_record(member: &[u8]) -> [u8; 56]
@@ -72,7 +73,7 @@ pub fn next_rewriting(
     let mut choice = from;
     while rule < rules {
         let parts = book::rule_at(book, starts[rule]);
-        let found = unify::next(member, book, parts, choice);
+        let found = lister::next(member, book, parts, choice);
         if found.found {
             let rewriting = found.rewriting;
             return Taken {

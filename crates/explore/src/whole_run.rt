@@ -4,30 +4,30 @@ ghost use Prim.Native.Nat.{_≤_};
 ghost use lib.ListN.{length};
 ghost use Rattle.covering.specs.Form.{form};
 ghost use Rattle.covering.specs.Record.{desk};
-ghost use Rattle.cover.specs.Buffer.{heldIn};
+ghost use Rattle.covering.specs.Buffer.{heldIn};
 ghost use Rattle.reading.specs.Book.{bookOf};
 ghost use Rattle.reading.specs.Verdict.{SoundBook};
 ghost use Rattle.exploration.specs.Union.{outputSize};
 ghost use Rattle.exploration.specs.Answer.{outcomeOf, Answers};
-ghost use Rattle.explore.specs.WorkingArray.{RanIs};
+ghost use Rattle.explore.specs.Exploring.{RanIs};
 use super::Answer;
 use super::Explored;
-use super::Extent;
-use super::FIRST;
 use super::OUTPUT;
 use super::Ran;
 use super::exploring::explore;
 use super::taking_up::oldest;
-use super::working::append;
-use super::working::copy_out;
-use super::working::fill_header;
+use super::written::copy_out;
+use super::written::fill_header;
+use admit::Extent;
+use admit::FIRST;
+use admit::append;
 
 // The form of the book's question.
 fn first_member(book: &[u8]) -> [u8; 56]
     requires { ⌜ SoundBook (now book) ⌝ }
     ensures { λ r. ⌜ r ≡ heldIn desk 56 (form (bookOf (now (book .entry)) .question)) ⌝ }
 {
-    cover::in_form(book::question(book))
+    forming::in_form(book::question(book))
 }
 
 // Takes up the oldest unexplored member and explores it, until none is unexplored or the run is refused.

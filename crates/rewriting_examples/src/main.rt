@@ -1,7 +1,7 @@
 // What one rule makes of one question: each valid choice's number and its rewriting, a book a listing. The relation
 // numbers are in the order of the book's relations.
 ghost use Prim.Native.Nat.{_+_, _≤_};
-ghost use Rattle.unify.specs.InBytes.{QuestionIn, RuleIn};
+ghost use Rattle.lister.specs.Asking.{QuestionIn, RuleIn};
 use book::Parts;
 use libc::STDOUT_FILENO;
 
@@ -134,7 +134,7 @@ fn list(question: &[u8], book: &[u8], rule: Parts)
 {
     let mut from: usize = 0;
     while from < MOST {
-        let r = unify::next(question, book, rule, from);
+        let r = lister::next(question, book, rule, from);
         let found = r.found;
         if !found {
             return;

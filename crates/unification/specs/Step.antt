@@ -1,13 +1,13 @@
 -- One-step rewritings (01, "One-step rewritings"): which choices are valid, what each gives, and the list of a
 -- question's rewritings by a rule with the numbers of their choices.
-use mathlib.Core.Bool.{Bool, true, false, cond, not, _&&_, _||_}
+use mathlib.Core.Bool.{Bool, cond, not, _&&_, _||_}
 use mathlib.Core.List.{List, _++_, map}
 use mathlib.Core.Option.{Option, none, some}
 use Prim.Native.Nat.{ℕ, _+_, _<_}
 use lib.Dec.{leb}
 use lib.ListN.{length}
 use Rattle.covering.specs.Lists.{_∈_, any, all, keep, head, bind, collect}
-use Rattle.covering.specs.Term.{Term, var, con, Question, Sub, on-term, on-question, terms, eqTerm, isVar}
+use Rattle.covering.specs.Term.{Term, var, Question, Sub, on-term, on-question, terms, eqTerm, isVar}
 use Rattle.covering.specs.Form.{form}
 use Rattle.covering.specs.Rule.{Rule}
 use Rattle.unification.specs.Classes.{unify}

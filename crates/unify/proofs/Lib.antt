@@ -1,19 +1,11 @@
--- The laws that the lister's functions cite.
+-- The laws that the functions of unification cite.
 
--- the builder and its table do what the definitions say
-pub mod Build
-pub mod Table
--- what the code holds in bytes
+-- the classes in a table of bytes, changed entry by entry; atoms put on atoms
 pub mod Each
 pub mod TableBytes
 pub mod Joins
-pub mod Entries
-pub mod Prefixes
-pub mod RewritingBytes
-pub mod Asked
 -- the code's tests of terms, and of validity
 pub mod EachTerm
 pub mod ValidTests
--- a sound book gives what the lister asks for; any two results of a contract are equal
-pub mod FromBook
+-- what each contract determines
 pub mod Determined

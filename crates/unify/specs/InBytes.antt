@@ -1,21 +1,12 @@
 -- How the code holds rules, classes and an answer. The contracts of the lister's own functions are joinedTable with it; that
 -- of `next` needs only `foundOf` and `ruleIn`.
-use mathlib.Core.Path.{_≡_}
-use mathlib.Core.Bool.{Bool, true, false, cond}
+use mathlib.Core.Bool.{cond}
 use mathlib.Core.List.{List, map}
 use mathlib.Core.Option.{Option, none, some}
-use Prim.Native.Nat.{ℕ, suc, _+_, _*_, _≤_, _<_}
-use lib.Dec.{T}
-use lib.ListN.{length, getD, replicate}
-use Rattle.covering.specs.Lists.{_∈_}
-use Rattle.covering.specs.Term.{Term, Question}
-use Rattle.covering.specs.Record.{Layout, desk, termOf, atomsAt, questionOf, areAtoms, TermFits}
-use Rattle.cover.specs.Buffer.{heldIn, AtomsIn}
+use Prim.Native.Nat.{ℕ}
+use Rattle.covering.specs.Record.{Layout, desk, termOf, atomsAt}
 use Rattle.covering.specs.Rule.{Rule}
-use Rattle.book.specs.declared.Parts.{Parts}
 use Rattle.unify.specs.declared.Joined.{Joined}
-use Rattle.unify.specs.declared.Found.{Found}
-use Rattle.unification.specs.Choice.{count, mostChoices}
 use Rattle.unify.specs.Table.{Table}
 
 -- what a rule's atoms and a question's keep to: variables 0 to 31
@@ -33,59 +24,3 @@ classesOf bytes = map termOf bytes
 -- what an attempt to merge says: classes, or that two constants would meet
 unfoldable pub joinedTable : Joined → Option Table
 joinedTable c = cond (c .ok) (some (classesOf (c .table))) none
-
--- the rule of these parts
-abbrev pub ruleOf : List ℕ → Parts → Rule
-ruleOf B p = ruleIn B (p .body) (p .bodies) (p .head) (p .heads)
-
--- what an answer holds: the choice's number and its rewriting as a record, or nothing
-abbrev pub foundOf : Option (ℕ × Question) → Found
-foundOf none = record { found = false; choice = 0; rewriting = replicate 56 255 }
-foundOf (some e) = record { found = true; choice = e .0; rewriting = heldIn desk 56 (e .1) }
-
--- a rule of a sound book: sound atoms, one to four in its head and no more in its body
-pub record RuleIn (B : List ℕ) (p : Parts) : Type 0 where
-  pub body : AtomsIn inBook B (p .body) (p .bodies)
-  pub head : AtomsIn inBook B (p .head) (p .heads)
-  pub some-body : 1 ≤ p .bodies
-  pub few-body : p .bodies ≤ 4
-  pub some-head : 1 ≤ p .heads
-  pub few-head : p .heads ≤ 4
-
--- a question of at most eight sound atoms
-pub record QuestionIn (Q : List ℕ) : Type 0 where
-  pub atoms : AtomsIn inBook Q 1 (getD Q 0 0)
-  pub few : getD Q 0 0 ≤ 8
-
--- the atoms left so far, a record under construction
-pub record LeftIn (A : List ℕ) : Type 0 where
-  pub holds : A ≡ heldIn desk 56 (questionOf desk A)
-  pub atoms : AtomsIn inBook A 1 (getD A 0 0)
-
--- what stands for a class fits a record
-abbrev pub ClassesFit : List ℕ → Type 0
-ClassesFit table = (t : Term) → t ∈ classesOf table → TermFits desk t
-
--- a record under construction, with room for n atoms more
-pub record Filling (A : List ℕ) (n : ℕ) : Type 0 where
-  pub holds : A ≡ heldIn desk 56 (questionOf desk A)
-  pub atoms : T (areAtoms desk A 1 (getD A 0 0))
-  pub room : getD A 0 0 + n ≤ 11
-
--- what stands for the rule's variables, moved down again
-pub record UpperHalf (table upper : List ℕ) : Type 0 where
-  pub moved : (n : ℕ) → n < 32 → getD upper n 0 ≡ getD table (n + 32) 0
-  pub others : (n : ℕ) → 32 ≤ n → getD upper n 0 ≡ getD table n 0
-  pub size : length upper ≡ length table
-
--- what the builder is given: the `more` atoms of Q from i on are to get a digit; the choice's number so far; whether
--- some atom was sent; the atoms left and the classes so far. There is room: eight atoms in all, and one less once one
--- was sent.
-pub record Asks (Q B : List ℕ) (p : Parts) (i more number : ℕ) (sent : Bool) (A table : List ℕ) : Type 0 where
-  pub atoms : AtomsIn inBook Q i more
-  pub rule : RuleIn B p
-  pub left : LeftIn A
-  pub few : getD A 0 0 + more ≤ 8
-  pub fewer : sent ≡ true → getD A 0 0 + more ≤ 7
-  pub small : suc number * count (p .heads) more ≤ mostChoices
-  pub classes : ClassesFit table

@@ -1,5 +1,4 @@
--- What only the contracts of this crate's functions are said with: the builder, the classes in a table, and how the
--- code holds rules, classes and an answer. What `next` gives is `unification`'s.
-pub mod Build
+-- What only the contracts of this crate's functions, and of the lister, are said with: the classes in a table, and how
+-- the code holds rules and classes. What they mean is `unification`'s.
 pub mod Table
 pub mod InBytes

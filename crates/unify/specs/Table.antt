@@ -4,14 +4,10 @@ use mathlib.Core.List.{List, [], _∷_, map}
 use mathlib.Core.Option.{Option, none, some}
 use Prim.Native.Nat.{ℕ, zero, suc}
 use lib.Dec.{eqb}
-use lib.ListN.{length, getD}
+use lib.ListN.{getD}
 use Rattle.covering.specs.Lists.{bind}
-use Rattle.covering.specs.Term.{Term, var, con, Question, Sub}
-use Rattle.covering.specs.Rule.{Rule}
+use Rattle.covering.specs.Term.{Term, var, con, Sub}
 use Rattle.unification.specs.Classes.{Pair, point}
-use Rattle.unification.specs.Choice.{toHead}
-use Rattle.unification.specs.Step.{move, judge}
-use Rattle.unify.specs.Build.{Builder, since}
 
 abbrev pub Table : Type 0
 Table = List Term
@@ -39,12 +35,3 @@ joinTable m (con c) (con d) = cond (eqb c d) (some m) none
 abbrev pub unifyTable : List Pair → Table → Option Table
 unifyTable [] m = some m
 unifyTable (p ∷ ps) m = bind (joinTable m (look m (p .0)) (look m (p .1))) (λ n. unifyTable ps n)
-
--- the builder of one-step rewritings over tables
-abbrev pub tableBuilder : ℕ → Rule → ℕ → Builder Table (ℕ × Question)
-tableBuilder k r n =
-    record {
-      heads = length (r .head);
-      meet = λ d a m. unifyTable (toHead ((move k r) .head) d a) m;
-      verdict = λ c L m. since n c (judge L (move k r) (tabled m));
-    }

@@ -11,7 +11,7 @@ ghost use lib.ListN.{length, getD};
 ghost use Rattle.covering.specs.Lists.{all};
 ghost use Rattle.covering.specs.Term.{on-term, on-question, terms, eqTerm};
 ghost use Rattle.covering.specs.Record.{desk, termOf, argsAt, atomsAt, usedFirst};
-ghost use Rattle.cover.specs.Buffer.{AtomsIn};
+ghost use Rattle.covering.specs.Buffer.{AtomsIn};
 ghost use Rattle.unification.specs.Step.{up, move, memTerm, isUnknown, guarded, safe, valid};
 ghost use Rattle.unify.specs.Table.{tabled};
 ghost use Rattle.unify.specs.InBytes.{inBook, ruleIn, classesOf};

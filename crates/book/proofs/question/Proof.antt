@@ -10,8 +10,8 @@ use lib.Seq.{paste, paste-zero}
 use Rattle.covering.specs.Record.{desk}
 use Rattle.covering.proofs.RoundTrip.{desk-apart}
 use Rattle.covering.proofs.Slices.{paste-next}
-use Rattle.cover.specs.Buffer.{heldIn}
-use Rattle.cover.proofs.Padded.{copied-held}
+use Rattle.covering.specs.Buffer.{heldIn}
+use Rattle.covering.proofs.Padded.{copied-held}
 use Rattle.reading.specs.declared.Header.{Header}
 use Rattle.reading.specs.Word.{byte}
 use Rattle.reading.specs.Header.{atoms, questionAt}

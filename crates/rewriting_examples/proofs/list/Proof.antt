@@ -5,7 +5,7 @@ use mathlib.Core.Path.{_≡_, refl, sym}
 use mathlib.Core.Bool.{Bool, true, false, not}
 use Prim.Native.Nat.{_-_, _≤_, _<_}
 use Rattle.unification.specs.Choice.{mostChoices}
-use Rattle.unify.proofs.FromBook.{found-within}
+use Rattle.lister.proofs.FromBook.{found-within}
 use Rattle.rewriting_examples.proofs.list.Statement.{statement}
 use Rattle.rewriting_examples.proofs.list.Tie as tie
 

@@ -23,7 +23,7 @@ use Rattle.cover.proofs.Ahead.{dead-end}
 use Rattle.cover.proofs.Maps.{placed-yes, placed-no}
 use Rattle.cover.proofs.SearchSteps.{search-done, search-next, tried-none, tried-hit, tried-miss, then-placed}
 use Rattle.cover.proofs.SearchSteps.{then-not}
-use Rattle.cover.proofs.Within.{in-first, in-rest}
+use Rattle.covering.proofs.Within.{in-first, in-rest}
 use Rattle.cover.proofs.place.place_atom.Reads as place-atom-reads
 use Rattle.cover.proofs.search.all_have.Reads as all-have-reads
 

@@ -6,7 +6,7 @@ use borrow.Author.Tests.{not-true, not-false}
 use Rattle.covering.specs.Lists.{all}
 use Rattle.covering.specs.Record.{desk, atomsAt}
 use Rattle.cover.specs.HeldMap.{partOf}
-use Rattle.cover.specs.Buffer.{AtomsIn}
+use Rattle.covering.specs.Buffer.{AtomsIn}
 use Rattle.cover.specs.Candidates.{hasCandidate}
 use Rattle.cover.proofs.SearchSteps.{each-none, each-fails, each-passes}
 use Rattle.covering.proofs.Places.{sound-more}

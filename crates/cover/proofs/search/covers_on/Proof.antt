@@ -5,7 +5,7 @@ use mathlib.Core.Path.{_∙_}
 use Rattle.covering.specs.Record.{desk, questionOf}
 use Rattle.cover.proofs.Maps.{said-ok}
 use Rattle.cover.proofs.SearchSteps.{on-candidate}
-use Rattle.cover.proofs.Within.{sound-in, in-first}
+use Rattle.covering.proofs.Within.{sound-in, in-first}
 use Rattle.cover.proofs.search.covers_on.Statement.{statement}
 use Rattle.cover.proofs.search.covers_on.Tie as tie
 

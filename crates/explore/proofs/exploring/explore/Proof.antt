@@ -16,13 +16,13 @@ use Rattle.covering.specs.Record.{SoundRecord}
 use Rattle.covering.proofs.Tests.{not-true, not-false}
 use Rattle.covering.specs.Rule.{Rule}
 use Rattle.reading.specs.Book.{bookOf}
-use Rattle.unify.specs.InBytes.{QuestionIn}
-use Rattle.explore.specs.declared.Fate.{Fate}
-use Rattle.explore.specs.declared.Fate.the-variants.{Dropped, Appended, Refused}
+use Rattle.lister.specs.Asking.{QuestionIn}
+use Rattle.admit.specs.declared.Fate.{Fate}
+use Rattle.admit.specs.declared.Fate.the-variants.{Dropped, Appended, Refused}
 use Rattle.exploration.specs.Run.{allRewritings}
-use Rattle.explore.specs.WorkingArray.{FateIs}
+use Rattle.admit.specs.WorkingArray.{FateIs}
 use denote.Enum.Declared.{tagOf}
-use Rattle.explore.proofs.Fate.{the-type}
+use Rattle.admit.proofs.Fate.{the-type}
 use Rattle.explore.proofs.Coming.{coming, Given, given-none, given-some}
 use Rattle.explore.proofs.Records.{rewriting-sound, rewriting-question, member-sound, member-in}
 use Rattle.explore.proofs.Onward.{Onward, onward-first, onward-done, onward-dropped, onward-refused}

@@ -10,7 +10,7 @@ use lib.ListN.{length, set, length-set, getD, replicate}
 use lib.Seq.{paste, paste-zero}
 use Rattle.covering.specs.Record.{desk}
 use Rattle.covering.proofs.RoundTrip.{desk-apart}
-use Rattle.cover.proofs.Padded.{begun-held}
+use Rattle.covering.proofs.Padded.{begun-held}
 use Rattle.covering.proofs.Slices.{paste-more}
 use Rattle.explore.proofs.taking_up.copy_record.Statement.{statement}
 use Rattle.explore.proofs.taking_up.copy_record.Tie as tie

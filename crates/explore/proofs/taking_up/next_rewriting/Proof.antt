@@ -11,7 +11,7 @@ use Rattle.covering.specs.Record.{desk, questionOf}
 use Rattle.reading.specs.Header.{rules as rulesOf}
 use Rattle.reading.specs.Book.{ruleAt, rulesFrom, ruleStart, bookOf}
 use Rattle.reading.proofs.Reading.{rules-left}
-use Rattle.unify.specs.InBytes.{foundOf}
+use Rattle.lister.specs.Asking.{foundOf}
 use Rattle.unification.specs.Step.{next}
 use Rattle.exploration.specs.Run.{apart}
 use Rattle.explore.specs.Taking.{nextAmong, taken}

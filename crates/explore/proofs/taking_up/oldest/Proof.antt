@@ -8,12 +8,12 @@ use Prim.Native.Nat.{ℕ, _+_, _-_, _≤_, _<_}
 use lib.ListN.{drop}
 use Rattle.covering.specs.Record.{desk, questionOf}
 use Rattle.covering.specs.Record.{SoundRecord}
-use Rattle.cover.specs.Buffer.{heldIn}
+use Rattle.covering.specs.Buffer.{heldIn}
 use Rattle.covering.specs.Lists.{head}
 use Rattle.exploration.specs.Union.{membersFrom, firstAt}
 use Rattle.exploration.proofs.Standing.{Here}
 use Rattle.covering.proofs.Slices.{part-is}
-use Rattle.explore.proofs.Array.{stands-all}
+use Rattle.admit.proofs.Array.{stands-all}
 use Rattle.explore.proofs.Among.{From, from-first, from-here, from-next, from-head}
 use Rattle.explore.proofs.taking_up.oldest.Statement.{statement}
 use Rattle.explore.proofs.taking_up.oldest.Tie as tie

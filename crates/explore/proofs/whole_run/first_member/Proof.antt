@@ -7,8 +7,9 @@ use Rattle.covering.specs.Term.{Question}
 use Rattle.covering.specs.Form.{form}
 use Rattle.covering.specs.Record.{desk, questionOf}
 use Rattle.covering.specs.Record.{SoundRecord}
-use Rattle.cover.specs.Buffer.{heldIn}
-use Rattle.explore.proofs.Records.{record-sound, record-question, question-desk}
+use Rattle.covering.specs.Buffer.{heldIn}
+use Rattle.explore.proofs.Records.{question-desk}
+use Rattle.covering.proofs.Padded.{desk-sound, desk-question}
 use Rattle.explore.proofs.whole_run.first_member.Statement.{statement}
 use Rattle.explore.proofs.whole_run.first_member.Tie as tie
 
@@ -17,13 +18,13 @@ question-requires c κs = search needs
 
 in-form-requires : tie.Need-in-form-requires
 in-form-requires c κs =
-    subst (SoundRecord desk) (sym (c .question .ensures)) (record-sound _ (question-desk _ (c .before .before .pre)))
+    subst (SoundRecord desk) (sym (c .question .ensures)) (desk-sound _ (question-desk _ (c .before .before .pre)))
 
 returns : tie.Need-returns
 returns c =
     c .in-form .ensures
     ∙ ap (λ (R : List ℕ). heldIn desk 56 (form (questionOf desk R))) (c .before .question .ensures)
-    ∙ ap (λ (A : Question). heldIn desk 56 (form A)) (record-question _ (question-desk _ (c .before .before .before .pre)))
+    ∙ ap (λ (A : Question). heldIn desk 56 (form A)) (desk-question _ (question-desk _ (c .before .before .before .pre)))
 
 pub first-member-spec : {M : Type 1} → statement M
 first-member-spec = tie.close (tie.spec question-requires in-form-requires returns)

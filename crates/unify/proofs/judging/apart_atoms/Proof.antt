@@ -6,7 +6,7 @@ use borrow.Author.Tests.{not-true, not-false}
 use Rattle.covering.specs.Lists.{all}
 use Rattle.covering.specs.Term.{on-question, terms}
 use Rattle.covering.specs.Record.{desk, atomsAt}
-use Rattle.cover.specs.Buffer.{AtomsIn}
+use Rattle.covering.specs.Buffer.{AtomsIn}
 use Rattle.covering.proofs.Bytes.{atom-used}
 use Rattle.covering.proofs.Places.{sound-more}
 use Rattle.unification.specs.Step.{up}

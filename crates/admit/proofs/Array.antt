@@ -1,0 +1,219 @@
+-- Laws of a working array in order (`specs/WorkingArray`, `Working`): members that stand, split and read elsewhere; an array
+-- that holds a state is in order, and its state is that one; the removal of all that a rewriting covers. Assumes
+-- nothing.
+use mathlib.Core.Path.{_≡_, sym, _∙_, ap, ap₂, subst}
+use mathlib.Core.List.{List, _++_, append-assoc}
+use mathlib.Core.Bool.{not}
+use Prim.Native.Nat.{ℕ, zero, suc, _+_, _-_, _≤_}
+use native.Mathlib.Omega.{arith}
+use lib.ListN.{length, take, drop, length-append, take-append-drop}
+use lib.Seq.{drop-at, take-at, length-take-le}
+use Rattle.covering.specs.Lists.{_∈_}
+use Rattle.covering.specs.Term.{Question}
+use Rattle.covering.specs.Search.{covers}
+use Rattle.covering.specs.Record.{desk, Fits}
+use Rattle.covering.specs.Record.{SoundRecord}
+use Rattle.covering.proofs.Lists.{keep-few, keep-append}
+use Rattle.covering.proofs.Lists.{keep-out}
+use Rattle.admit.specs.declared.Extent.{Extent}
+use Rattle.admit.specs.declared.Moved.{Moved}
+use Rattle.exploration.specs.Run.{State}
+use Rattle.exploration.specs.Run.{remaining}
+use Rattle.exploration.specs.Union.{membersBytes, membersFrom, memberEnd, firstAt, outputSize}
+use Rattle.admit.specs.WorkingArray.{Working, rest}
+use Rattle.admit.specs.WorkingArray.{HoldsState, stateIn, Remain}
+use Rattle.exploration.specs.Standing.{Standing}
+use Rattle.exploration.proofs.UnionBytes.{total-is, total-most, members-append}
+use Rattle.admit.proofs.Stand.{held-stands, held-members}
+use Rattle.exploration.proofs.Members.{members-count, ending, ending-none, ending-next, members-split}
+use Rattle.exploration.proofs.Members.{later, end-same, members-same}
+
+-- members that stand, split and read elsewhere
+module _ (W : List ℕ) where
+  pub standing-split : (i k n : ℕ) → Standing W i (k + n) → Standing W i k × Standing W (ending W i k) n
+  unfolding Standing
+  standing-split i zero n s = (
+    tt,
+    subst (λ (j : ℕ). Standing W j n) (ending-none W i) (subst (Standing W i) (none-passed n) s),
+  )
+    where
+      none-passed : (n : ℕ) → 0 + n ≡ n
+      none-passed n = omega arith
+  standing-split i (suc k) n s =
+      let t : SoundRecord desk (drop i W) × Standing W (memberEnd W i) (k + n) = subst (Standing W i) (one-passed k n) s in
+      let r = standing-split (memberEnd W i) k n (t .1) in
+      ((t .0, r .0), subst (λ (j : ℕ). Standing W j n) (ending-next W i k) (r .1))
+    where
+      one-passed : (k n : ℕ) → suc k + n ≡ suc (k + n)
+      one-passed k n = omega arith
+
+  pub standing-same : (X : List ℕ) (i n : ℕ) → drop i X ≡ drop i W → Standing W i n → Standing X i n
+  unfolding Standing
+  standing-same X i zero e s = tt
+  standing-same X i (suc n) e s = (
+    subst (SoundRecord desk) (sym e) (s .0),
+    subst (λ (j : ℕ). Standing X j n) (sym (end-same W X i e))
+        (standing-same X (memberEnd W i) n (later W X i e) (s .1)),
+  )
+
+-- an array that holds a state
+module _ {W : List ℕ} {len count front : ℕ} {s : State} (h : HoldsState W len count front s)
+    (fits : (M : Question) → M ∈ s .members → Fits desk M)
+  where
+    pub state-held : stateIn W (record { len = len; count = count; front = front }) ≡ s
+    state-held =
+        ap₂ (λ (U : List Question) (k : ℕ). record { members = U; explored = k }) (held-members W h fits) (h .explored)
+
+    pub held-working : ((M : Question) → M ∈ s .members → length M ≤ 8) → count ≤ 64 → front ≤ count
+        → Working W (record { len = len; count = count; front = front })
+    held-working short few ahead =
+        record {
+          held = subst (HoldsState W len count front) (sym state-held) h;
+          few = few;
+          ahead = ahead;
+          fits = λ M m. fits M (subst (λ (U : List Question). M ∈ U) (held-members W h fits) m);
+          short = λ M m. short M (subst (λ (U : List Question). M ∈ U) (held-members W h fits) m);
+        }
+
+-- what a working array gives the functions over it
+module _ {W : List ℕ} {e : Extent} (w : Working W e) where
+  pub stands-all : Standing W firstAt (e .count)
+  stands-all = held-stands W (w .held) (w .fits)
+
+  -- "at most 8 + 64 x 41 = 2,632 bytes"
+  pub len-most : e .len ≤ outputSize
+  len-most =
+      let c = members-count W firstAt (e .count) in
+      let t = total-most (membersFrom W firstAt (e .count)) (omega (arith, c, w .few)) (w .short) in
+      omega (arith, w .held .ends)
+
+  whole : e .count ≡ e .front + (e .count - e .front)
+  whole = omega (arith, w .ahead)
+
+  abbrev pub others : ℕ
+  others = e .count - e .front
+
+  pub parts-stand : Standing W firstAt (e .front) × Standing W (ending W firstAt (e .front)) (e .count - e .front)
+  parts-stand = standing-split W firstAt (e .front) others (subst (Standing W firstAt) whole stands-all)
+
+  parts-are : membersFrom W firstAt (e .count)
+      ≡ membersFrom W firstAt (e .front) ++ membersFrom W (ending W firstAt (e .front)) others
+  parts-are = ap (membersFrom W firstAt) whole ∙ members-split W firstAt (e .front) others
+
+  -- the others stand where they stood when the explored ones are through
+  pub others-stand : (P : Question) {X : List ℕ} {a : Moved} → Remain W firstAt firstAt (e .front) P X a
+      → Standing X (a .from) (e .count - e .front)
+  others-stand P {X} {a} k =
+      standing-same W X (a .from) others (k .after)
+      (subst (λ (i : ℕ). Standing W i others) (sym (k .passed)) (parts-stand .1))
+
+  -- the removal: first the explored ones, then the others
+  module _ (P : Question) {X Y : List ℕ} {a b : Moved} (k : Remain W firstAt firstAt (e .front) P X a)
+      (l : Remain X (a .from) (a .to) (e .count - e .front) P Y b)
+    where
+      abbrev U : List Question
+      U = membersFrom W firstAt (e .count)
+
+      abbrev explored : List Question
+      explored = membersFrom W firstAt (e .front)
+
+      abbrev unexplored : List Question
+      unexplored = membersFrom W (ending W firstAt (e .front)) others
+
+      there : drop (a .from) X ≡ drop (a .from) W
+      there = k .after
+
+      second : membersFrom X (a .from) others ≡ unexplored
+      second = members-same W X (a .from) others there ∙ ap (λ (i : ℕ). membersFrom W i others) (k .passed)
+
+      kept : State
+      kept =
+          record {
+            members = remaining covers P explored ++ remaining covers P unexplored;
+            explored = length (remaining covers P explored);
+          }
+
+      front-is : take (e .front) U ≡ explored
+      front-is =
+          ap (take (e .front)) parts-are
+          ∙ take-at explored unexplored (e .front) (members-count W firstAt (e .front))
+
+      kept-is : kept ≡ rest (stateIn W e) P
+      unfolding kept
+      kept-is =
+          ap₂ (λ (A : List Question) (n : ℕ). record { members = A; explored = n })
+          (sym (ap (remaining covers P) parts-are ∙ keep-append (λ M. not (covers P M)) explored unexplored))
+          (ap (λ (A : List Question). length (remaining covers P A)) (sym front-is))
+
+      in-all : (M : Question) → M ∈ kept .members → M ∈ U
+      in-all M m =
+          keep-out (λ N. not (covers P N)) U (subst (λ (s : State). M ∈ s .members) kept-is m) .0
+
+      bytes : take (b .to) Y ≡ take firstAt W ++ membersBytes (kept .members)
+      unfolding kept
+      bytes =
+          l .bytes
+          ∙ ap₂ _++_ (k .bytes) (ap (λ (A : List Question). membersBytes (remaining covers P A)) second)
+          ∙ append-assoc (take firstAt W) (membersBytes (remaining covers P explored))
+          (membersBytes (remaining covers P unexplored))
+          ∙ ap (λ (r : List ℕ). take firstAt W ++ r)
+          (sym (members-append (remaining covers P explored) (remaining covers P unexplored)))
+
+      lengths : length (membersBytes (kept .members))
+          ≡ length (membersBytes (remaining covers P explored)) + length (membersBytes (remaining covers P unexplored))
+      unfolding kept
+      lengths =
+          ap length (members-append (remaining covers P explored) (remaining covers P unexplored))
+          ∙ length-append (membersBytes (remaining covers P explored)) (membersBytes (remaining covers P unexplored))
+
+      removed : HoldsState Y (b .to) (a .kept + b .kept) (a .kept) kept
+      unfolding kept
+      removed =
+          record {
+            size = l .size ∙ k .size ∙ w .held .size;
+            bytes =
+                ap (drop firstAt) (sym (take-append-drop (b .to) Y))
+                ∙ ap (λ (r : List ℕ). drop firstAt (r ++ drop (b .to) Y)) bytes
+                ∙ ap (drop firstAt) (append-assoc (take firstAt W) (membersBytes (kept .members)) (drop (b .to) Y))
+                ∙ drop-at (take firstAt W) (membersBytes (kept .members) ++ drop (b .to) Y) firstAt
+                (length-take-le firstAt W (omega (arith, w .held .size)));
+            ends =
+                omega (
+                  arith,
+                  l .ends,
+                  k .ends,
+                  ap (λ (A : List Question). length (membersBytes (remaining covers P A))) second,
+                  total-is (kept .members),
+                  lengths,
+                );
+            members =
+                omega (
+                  arith,
+                  k .count,
+                  l .count,
+                  ap (λ (A : List Question). length (remaining covers P A)) second,
+                  length-append (remaining covers P explored) (remaining covers P unexplored),
+                );
+            explored = k .count;
+          }
+
+      pub removed-few : a .kept + b .kept ≤ 64
+      removed-few =
+          omega (
+            arith,
+            removed .members,
+            ap (λ (s : State). length (s .members)) kept-is,
+            keep-few (λ M. not (covers P M)) U,
+            members-count W firstAt (e .count),
+            w .few,
+          )
+
+      -- "remove every member that it covers"
+      pub removed-working : Working Y (record { len = b .to; count = a .kept + b .kept; front = a .kept })
+      removed-working =
+          held-working removed (λ M m. w .fits M (in-all M m)) (λ M m. w .short M (in-all M m)) removed-few
+          (omega arith)
+
+      pub removed-state : stateIn Y (record { len = b .to; count = a .kept + b .kept; front = a .kept })
+          ≡ rest (stateIn W e) P
+      removed-state = state-held removed (λ M m. w .fits M (in-all M m)) ∙ kept-is

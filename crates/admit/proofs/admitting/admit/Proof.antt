@@ -1,0 +1,122 @@
+-- `explore::admitting::admit` meets its contract: at each return, what became of the rewriting.
+use borrow.Author.Needs.{needs}
+use native.Mathlib.Omega.{arith}
+use mathlib.Core.Path.{_≡_}
+use Prim.Native.Nat.{ℕ, _≤_}
+use lib.ListN.{length}
+use Rattle.covering.specs.Term.{Question}
+use Rattle.covering.specs.Search.{covers}
+use Rattle.covering.specs.Record.{desk, questionOf, Fits}
+use Rattle.exploration.specs.Union.{membersFrom, firstAt}
+use Rattle.admit.specs.WorkingArray.{beforeCovering}
+use Rattle.covering.proofs.Lengths.{question-count}
+use Rattle.covering.proofs.Begun.{begun-long}
+use Rattle.covering.proofs.Padded.{sound-desk}
+use Rattle.admit.proofs.Array.{stands-all}
+use Rattle.admit.proofs.Fates.{fate-dropped, fate-long, fate-full, room-left, fate-appended}
+use Rattle.admit.proofs.admitting.admit.Statement.{statement}
+use Rattle.admit.proofs.admitting.admit.Tie as tie
+
+-- points of the walk: where the function began, where no member was found to cover the rewriting, and where those that
+-- it covers are removed
+abbrev start : tie.Else1 → tie.Start
+start e = e .before .before .before .before .before .before
+
+abbrev found : tie.Else1 → ℕ
+found e = e .before .before .member-covering .result
+
+abbrev looked : tie.After-remove-covered → tie.Else1
+looked r = r .before .before .before .before
+
+abbrev question : tie.Else1 → Question
+question e = questionOf desk (start e .args .rewriting .now)
+
+first : (e : tie.Else1)
+    → found e ≡ beforeCovering covers (question e) (membersFrom (start e .args .work .now) firstAt (start e .args .filled .count))
+first e = e .before .before .member-covering .ensures
+
+-- it is short enough, and there is a working array without what it covers
+short : (r : tie.After-remove-covered) → length (question (looked r)) ≤ 8
+short r = omega (arith, question-count desk (start (looked r) .args .rewriting .now), r .before .before .if2 .left)
+
+fits : (r : tie.After-remove-covered) → Fits desk (question (looked r))
+fits r = sound-desk _ (start (looked r) .pre .1)
+
+member-covering-requires : tie.Need-member-covering-requires
+member-covering-requires c κs = let b = c .before .before .before in (b .pre .0 .few, stands-all (b .pre .0), b .pre .1)
+
+same-length : tie.Need-same-length
+same-length c = search needs
+
+returns : tie.Need-returns
+returns c =
+    let b = c .before .before .before .before .before .before in
+    fate-dropped (b .pre .0) _ _ (c .before .before .member-covering .ensures) (c .if1 .taken)
+
+shared-slice-read-if2 : tie.Need-shared-slice-read-if2
+shared-slice-read-if2 c = search needs
+
+same-length-2 : tie.Need-same-length-2
+same-length-2 c = search needs
+
+returns-2 : tie.Need-returns-2
+returns-2 c =
+    let e = c .before .before in
+    fate-long (start e .pre .0) _ _ (first e) (e .if1 .left)
+    (omega (arith, question-count desk (start e .args .rewriting .now), c .if2 .taken))
+
+remove-covered-requires : tie.Need-remove-covered-requires
+remove-covered-requires c κs = search needs
+
+same-length-3 : tie.Need-same-length-3
+same-length-3 c = search needs
+
+returns-3 : tie.Need-returns-3
+returns-3 c =
+    let r = c .before .before .before .before in
+    let e = looked r in
+    let kept = r .remove-covered .ensures in
+    fate-full (start e .pre .0) _ _ (first e) (e .if1 .left) (short r) (kept .0) (kept .1) (c .if3 .taken)
+
+append-requires : tie.Need-append-requires
+append-requires c κs =
+    let r = c .before .before .before .before .before in
+    let e = looked r in
+    let kept = r .remove-covered .ensures in
+    let room =
+    room-left (start e .pre .0) _ _ (first e) (e .if1 .left) (short r) (kept .0) (kept .1) (fits r)
+    (c .before .if3 .left) in
+    (start e .pre .1, omega (arith, room, begun-long desk (start e .args .rewriting .now), kept .0 .held .size))
+
+add-t6 : tie.Need-add-t6
+add-t6 c = search needs
+
+same-length-4 : tie.Need-same-length-4
+same-length-4 c = search needs
+
+returns-4 : tie.Need-returns-4
+returns-4 c =
+    let r = c .before .before .before .before .before .before .before .before .before in
+    let e = looked r in
+    let kept = r .remove-covered .ensures in
+    let put = c .before .before .before .append .ensures in
+    fate-appended (start e .pre .0) _ _ (first e) (e .if1 .left) (short r) (kept .0) (kept .1) (fits r)
+    (c .before .before .before .before .before .if3 .left) _ _ (put .0) (put .1)
+
+pub admit-spec : {M : Type 1} → statement M
+admit-spec =
+    tie.close
+    (tie.spec
+    member-covering-requires
+    same-length
+    returns
+    shared-slice-read-if2
+    same-length-2
+    returns-2
+    remove-covered-requires
+    same-length-3
+    returns-3
+    append-requires
+    add-t6
+    same-length-4
+    returns-4)

@@ -1,0 +1,174 @@
+-- `explore::searching::member_covering` meets its contract. The outer loop's invariant: the first covering member is so
+-- many members after the one at hand as it is among those left; the inner one's: the member at hand covers exactly
+-- where one of the candidates left serves. The measures are the numbers of members and of candidates left.
+use borrow.Author.Needs.{needs}
+use native.Mathlib.Omega.{arith}
+use native.Mathlib.Nat.{sub-zero, zero-add}
+use mathlib.Core.Path.{_≡_, sym, _∙_, subst}
+use Prim.Native.Nat.{_+_, _*_, _-_, _≤_}
+use lib.ListN.{drop}
+use Rattle.covering.specs.Lists.{any}
+use Rattle.covering.specs.Search.{covers}
+use Rattle.cover.specs.Candidates.{coversOn}
+use Rattle.covering.specs.Record.{desk, atomsAt, questionOf}
+use Rattle.covering.specs.Record.{SoundRecord}
+use Rattle.exploration.specs.Union.{membersFrom}
+use Rattle.admit.specs.WorkingArray.{beforeCovering}
+use Rattle.exploration.specs.Standing.{Standing}
+use Rattle.admit.proofs.Finding.{any-end, any-hit, any-miss, covers-one, first-end, first-hit, first-miss}
+use Rattle.exploration.proofs.Standing.{Here, stands}
+use Rattle.covering.proofs.Slices.{part-is}
+use Rattle.admit.proofs.searching.member_covering.Statement.{statement}
+use Rattle.admit.proofs.searching.member_covering.Tie as tie
+
+abbrev Inv-atoms : tie.InvT-atoms
+Inv-atoms work count rewriting w at i width member k₀ k =
+    (k ≤ w)
+    × (covers (questionOf desk (drop at work)) (questionOf desk rewriting)
+    ≡ any (coversOn (questionOf desk (drop at work)) (questionOf desk rewriting))
+    (atomsAt desk rewriting (1 + k * 5) (w - k)))
+
+abbrev μ-atoms : tie.MeasureT-atoms
+μ-atoms work count rewriting w at i width member k₀ k = w - k
+
+abbrev Inv-members : tie.InvT-members
+Inv-members work count rewriting w at₀ i₀ at i =
+    (i ≤ count)
+    × Standing work at (count - i)
+    × (beforeCovering covers (questionOf desk rewriting) (membersFrom work 8 count)
+    ≡ i + beforeCovering covers (questionOf desk rewriting) (membersFrom work at (count - i)))
+
+abbrev μ-members : tie.MeasureT-members
+μ-members work count rewriting w at₀ i₀ at i = count - i
+
+-- the member of this turn
+here : (c : tie.Else1 Inv-atoms μ-atoms Inv-members μ-members)
+    → Here (c .before .before .before .before .before .args .work .now) (c .before .members .at)
+    (c .before .before .before .before .before .args .count - (c .before .members .i + 1))
+here c = stands _ _ _ _ (c .if1 .left) (c .before .members .inv .1)
+
+shared-slice-read-w : tie.Need-shared-slice-read-w Inv-atoms μ-atoms Inv-members μ-members
+shared-slice-read-w c = search needs
+
+cast-w : tie.Need-cast-w Inv-atoms μ-atoms Inv-members μ-members
+cast-w c = search needs
+
+members-holds : tie.Need-members-holds Inv-atoms μ-atoms Inv-members μ-members
+members-holds c = (search needs, rw sub-zero (c .before .before .before .pre .1), rw (sub-zero, zero-add))
+
+shared-slice-read-width : tie.Need-shared-slice-read-width Inv-atoms μ-atoms Inv-members μ-members
+shared-slice-read-width c = omega (arith, here (c .before))
+
+cast-width : tie.Need-cast-width Inv-atoms μ-atoms Inv-members μ-members
+cast-width c = omega (arith, here (c .before))
+
+mul-width : tie.Need-mul-width Inv-atoms μ-atoms Inv-members μ-members
+mul-width c = omega (arith, here (c .before))
+
+add-width : tie.Need-add-width Inv-atoms μ-atoms Inv-members μ-members
+add-width c = omega (arith, here (c .before))
+
+sub-member : tie.Need-sub-member Inv-atoms μ-atoms Inv-members μ-members
+sub-member c = omega (arith, here (c .before))
+
+part-member-start : tie.Need-part-member-start Inv-atoms μ-atoms Inv-members μ-members
+part-member-start c = omega (arith, here (c .before))
+
+part-member-end : tie.Need-part-member-end Inv-atoms μ-atoms Inv-members μ-members
+part-member-end c = search needs
+
+atoms-holds : tie.Need-atoms-holds Inv-atoms μ-atoms Inv-members μ-members
+atoms-holds c = (search needs, covers-one _ _ (here (c .before .before) .sound))
+
+covers-on-requires : tie.Need-covers-on-requires Inv-atoms μ-atoms Inv-members μ-members
+covers-on-requires c κs =
+    let b = c .before .before .before .before in
+    let a = b .before .before .before .before .before in (
+      subst (SoundRecord desk) (sym (part-is (a .args .work .now) (b .before .members .at))) (here b .sound),
+      a .pre .2,
+      search needs,
+    )
+
+add-k : tie.Need-add-k Inv-atoms μ-atoms Inv-members μ-members
+add-k c = search needs
+
+atoms-less : tie.Need-atoms-less Inv-atoms μ-atoms Inv-members μ-members
+atoms-less c = search needs
+
+atoms-again : tie.Need-atoms-again Inv-atoms μ-atoms Inv-members μ-members
+atoms-again c =
+    let b = c .before .before .before .before .before .before in
+    let a = b .before .before .before .before .before .args in (
+      search needs,
+      c .before .before .before .atoms .inv .1
+          ∙ any-miss _ _ _ _ (c .before .before .atoms-test .left)
+          (rw (part-is (a .work .now) (b .before .members .at)) at (sym (c .before .covers-on .ensures)) ∙ c .if2 .left),
+    )
+
+add-at : tie.Need-add-at Inv-atoms μ-atoms Inv-members μ-members
+add-at c = omega (arith, here (c .before .before .before .before))
+
+add-i : tie.Need-add-i Inv-atoms μ-atoms Inv-members μ-members
+add-i c = search needs
+
+members-less : tie.Need-members-less Inv-atoms μ-atoms Inv-members μ-members
+members-less c = search needs
+
+members-again : tie.Need-members-again Inv-atoms μ-atoms Inv-members μ-members
+members-again c =
+    let b = c .before .before .before .before in
+    let a = b .before .before .before .before .before .args in
+    let e =
+    first-miss covers (questionOf desk (a .rewriting .now)) (a .work .now) (b .before .members .at)
+    (b .before .members .i) (a .count) (b .if1 .left)
+    (c .before .atoms .inv .1 ∙ any-end _ _ _ _ (c .atoms-test .taken)) in
+    (search needs, here b .rest, omega (arith, b .before .members .inv .2, e))
+
+returns : tie.Need-returns Inv-atoms μ-atoms Inv-members μ-members
+returns c =
+    let a = c .before .before .before .before .before .args in
+    let e =
+    first-end covers (questionOf desk (a .rewriting .now)) (a .work .now) (c .before .members .at)
+    (c .before .members .i) (a .count) (c .if1 .taken) in
+    omega (arith, c .before .members .inv .2, e)
+
+returns-2 : tie.Need-returns-2 Inv-atoms μ-atoms Inv-members μ-members
+returns-2 c =
+    let b = c .before .before .before .before .before .before in
+    let a = b .before .before .before .before .before .args in
+    let e =
+    first-hit covers (questionOf desk (a .rewriting .now)) (a .work .now) (b .before .members .at) _ _ (b .if1 .left)
+    (c .before .before .before .atoms .inv .1
+    ∙ any-hit _ _ _ _ (c .before .before .atoms-test .left)
+    (rw (part-is (a .work .now) (b .before .members .at)) at (sym (c .before .covers-on .ensures)) ∙ c .if2 .taken)) in
+    omega (arith, b .before .members .inv .2, e)
+
+pub member-covering-spec : {M : Type 1} → statement M
+member-covering-spec =
+    tie.close
+    (tie.spec
+    Inv-atoms
+    μ-atoms
+    Inv-members
+    μ-members
+    shared-slice-read-w
+    cast-w
+    members-holds
+    shared-slice-read-width
+    cast-width
+    mul-width
+    add-width
+    sub-member
+    part-member-start
+    part-member-end
+    atoms-holds
+    covers-on-requires
+    add-k
+    atoms-less
+    atoms-again
+    add-at
+    add-i
+    members-less
+    members-again
+    returns
+    returns-2)

@@ -1,0 +1,107 @@
+-- `explore::working::append` meets its contract. The loop's invariant: the record's bytes passed are copied to len.
+-- The measure is the number of bytes left.
+use borrow.Author.Needs.{needs}
+use native.Mathlib.Omega.{arith}
+use mathlib.Core.Path.{_≡_, refl, sym, ap, _∙_}
+use mathlib.Core.List.{List, _++_, append-assoc}
+use Prim.Native.Nat.{ℕ, _+_, _*_, _-_, _≤_}
+use lib.ListN.{length, set, length-set, getD, take, drop}
+use lib.Seq.{paste, paste-zero}
+use Rattle.covering.specs.Record.{desk, questionOf, recordBytes}
+use Rattle.covering.proofs.RoundTrip.{desk-apart}
+use Rattle.covering.proofs.Begun.{begun-long, begun-record}
+use Rattle.covering.proofs.Slices.{paste-more}
+use Rattle.admit.proofs.working.append.Statement.{statement}
+use Rattle.admit.proofs.working.append.Tie as tie
+
+abbrev Inv-loop : tie.InvT-loop
+Inv-loop work₀ len member width i₀ work i = (i ≤ width) × (length work ≡ length work₀) × (work ≡ paste work₀ len member i)
+
+abbrev μ-loop : tie.MeasureT-loop
+μ-loop work₀ len member width i₀ work i = width - i
+
+shared-slice-read-width : tie.Need-shared-slice-read-width Inv-loop μ-loop
+shared-slice-read-width c = search needs
+
+cast-width : tie.Need-cast-width Inv-loop μ-loop
+cast-width c = search needs
+
+mul-width : tie.Need-mul-width Inv-loop μ-loop
+mul-width c = search needs
+
+add-width : tie.Need-add-width Inv-loop μ-loop
+add-width c = search needs
+
+loop-holds : tie.Need-loop-holds Inv-loop μ-loop
+loop-holds c =
+    let a = c .before .args in
+    (search needs, refl, paste-zero (a .work .now) (a .len) (a .member .now))
+
+shared-slice-read-work : tie.Need-shared-slice-read-work Inv-loop μ-loop
+shared-slice-read-work c = search needs
+
+add-work : tie.Need-add-work Inv-loop μ-loop
+add-work c = search needs
+
+slice-write-work : tie.Need-slice-write-work Inv-loop μ-loop
+slice-write-work c = search needs
+
+add-i : tie.Need-add-i Inv-loop μ-loop
+add-i c = search needs
+
+loop-less : tie.Need-loop-less Inv-loop μ-loop
+loop-less c = search needs
+
+loop-again : tie.Need-loop-again Inv-loop μ-loop
+loop-again c =
+    let l = c .before .before in
+    let a = l .before .before .args in
+    let i = l .loop .i in (
+      search needs,
+      simp length-set (omega arith),
+      ap (λ w. set w (a .len + i) (getD (a .member .now) i 0)) (l .loop .inv .2)
+          ∙ paste-more (a .work .now) (a .len) (a .member .now) i (a .len + i) refl (search needs) (search needs),
+    )
+
+add-result : tie.Need-add-result Inv-loop μ-loop
+add-result c = search needs
+
+same-length : tie.Need-same-length Inv-loop μ-loop
+same-length c = search needs
+
+returns : tie.Need-returns Inv-loop μ-loop
+returns c =
+    let l = c .before in
+    let a = l .before .before .args in
+    let B = a .member .now in
+    let W = a .work .now in
+    let width = 1 + getD B 0 0 * 5 in
+    let end : l .loop .i ≡ width = omega arith in (
+      ap (λ (n : ℕ). a .len + n) (sym (begun-long desk B)),
+      l .loop .inv .2
+          ∙ ap (paste W (a .len) B) end
+          ∙ ap (λ (r : List ℕ). take (a .len) W ++ r ++ drop (a .len + width) W)
+          (begun-record desk B desk-apart (l .before .before .pre .0))
+          ∙ append-assoc (take (a .len) W) (recordBytes desk (questionOf desk B)) (drop (a .len + width) W),
+    )
+
+pub append-spec : {M : Type 1} → statement M
+append-spec =
+    tie.close
+    (tie.spec
+    Inv-loop
+    μ-loop
+    shared-slice-read-width
+    cast-width
+    mul-width
+    add-width
+    loop-holds
+    shared-slice-read-work
+    add-work
+    slice-write-work
+    add-i
+    loop-less
+    loop-again
+    add-result
+    same-length
+    returns)

@@ -1,0 +1,42 @@
+// Admitting one rewriting.
+ghost use Rattle.covering.specs.Record.{desk, questionOf};
+ghost use Rattle.covering.specs.Record.{SoundRecord};
+ghost use Rattle.admit.specs.WorkingArray.{Working, FateIs};
+use super::Extent;
+use super::Fate;
+use super::removing::remove_covered;
+use super::searching::member_covering;
+use super::working::append;
+
+// "More than 8 atoms", "a 65th member".
+const CAP: u8 = 8;
+
+const ROOM: usize = 64;
+
+// Drops the rewriting if a member covers it; else refuses with 8, removes what it covers, refuses with 9, or appends it.
+pub fn admit(work: &mut [u8], filled: Extent, rewriting: &[u8]) -> Fate
+    requires { ⌜ Working (now work) filled × SoundRecord desk (now rewriting) ⌝ }
+    ensures { λ r. ⌜ FateIs
+        (now (work .entry))
+        filled
+        (questionOf desk (now (rewriting .entry)))
+        (now (work .exit))
+        r ⌝ }
+{
+    if member_covering(work, filled.count, rewriting) < filled.count {
+        return Fate::Dropped;
+    }
+    if CAP < rewriting[0] {
+        return Fate::Refused(8);
+    }
+    let kept = remove_covered(work, filled, rewriting);
+    if ROOM <= kept.count {
+        return Fate::Refused(9);
+    }
+    let len = append(work, kept.len, rewriting);
+    Fate::Appended(Extent {
+        len: len,
+        count: kept.count + 1,
+        front: kept.front,
+    })
+}

@@ -1,0 +1,44 @@
+// The search for a member that covers a rewriting.
+ghost use mathlib.Core.Path.{_≡_};
+ghost use Prim.Native.Nat.{_≤_};
+ghost use Rattle.covering.specs.Search.{covers};
+ghost use Rattle.covering.specs.Record.{desk, questionOf};
+ghost use Rattle.covering.specs.Record.{SoundRecord};
+ghost use Rattle.exploration.specs.Union.{membersFrom, firstAt};
+ghost use Rattle.admit.specs.WorkingArray.{beforeCovering};
+ghost use Rattle.exploration.specs.Standing.{Standing};
+use super::FIRST;
+
+// The number of the first of the count members that covers the rewriting, count where none does. One candidate for the
+// member's first atom is asked at a time, so that the search ends at the first that serves.
+pub fn member_covering(work: &[u8], count: usize, rewriting: &[u8]) -> usize
+    requires { ⌜ (count ≤ 64) × Standing (now work) firstAt count × SoundRecord desk (now rewriting) ⌝ }
+    ensures { λ r. ⌜ r
+        ≡ beforeCovering covers
+        (questionOf desk (now (rewriting .entry)))
+        (membersFrom (now (work .entry)) firstAt count) ⌝ }
+{
+    let w = rewriting[0] as usize;
+    let mut at = FIRST;
+    let mut i = 0;
+    let found = 'members: loop {
+        if count <= i {
+            break 'members count;
+        }
+        let width = 1 + (work[at] as usize) * 5;
+        let member = &work[at..];
+        let mut k = 0;
+        'atoms: loop {
+            if w <= k {
+                break 'atoms;
+            }
+            if cover::covers_on(member, rewriting, k) {
+                break 'members i;
+            }
+            k += 1;
+        }
+        at += width;
+        i += 1;
+    };
+    found
+}

@@ -1,0 +1,38 @@
+// The working array: the union as it will be written, its members' records one after the other. A record is put after
+// the last one, and those that stay are moved down over those that are removed.
+ghost use mathlib.Core.Path.{_≡_};
+ghost use mathlib.Core.List.{_++_};
+ghost use Prim.Native.Nat.{_+_, _*_, _≤_};
+ghost use lib.ListN.{length, getD, take, drop};
+ghost use Rattle.covering.specs.Record.{desk, questionOf, recordBytes, SoundRecord};
+
+// Puts the record at len, and answers where it ends.
+pub fn append(work: &mut [u8], len: usize, member: &[u8]) -> usize
+    requires { ⌜ SoundRecord desk (now member) × (len + (1 + getD (now member) 0 0 * 5) ≤ length (now work)) ⌝ }
+    ensures { λ r. ⌜ (r ≡ len + length (recordBytes desk (questionOf desk (now (member .entry)))))
+        × (now (work .exit)
+        ≡ take len (now (work .entry))
+        ++ (recordBytes desk (questionOf desk (now (member .entry))) ++ drop r (now (work .entry)))) ⌝ }
+{
+    let width = 1 + (member[0] as usize) * 5;
+    let mut i = 0;
+    while i < width {
+        work[len + i] = member[i];
+        i += 1;
+    }
+    len + width
+}
+
+// Moves the width bytes at `from` down to `to`. Each is read before it is written over, since it goes no higher.
+pub fn move_down(work: &mut [u8], from: usize, to: usize, width: usize)
+    requires { ⌜ (to ≤ from) × (from + width ≤ length (now work)) ⌝ }
+    ensures { λ r. ⌜ now (work .exit)
+        ≡ take to (now (work .entry))
+        ++ (take width (drop from (now (work .entry))) ++ drop (to + width) (now (work .entry))) ⌝ }
+{
+    let mut i = 0;
+    while i < width {
+        work[to + i] = work[from + i];
+        i += 1;
+    }
+}

@@ -1,0 +1,173 @@
+-- The examples that are not starred, as one list: 01's 10 and 11, the books of `Examples`, and for each order of the
+-- exploration that could be got wrong one that tells it from the right one.
+use mathlib.Core.List.{List, [], _∷_, _++_, map}
+use Prim.Native.Nat.{ℕ, _+_, _*_}
+use lib.ListN.{length, replicate}
+use Rattle.covering.specs.Lists.{gather, numbers}
+use Rattle.covering.specs.Term.{con, Question}
+use Rattle.covering.specs.Record.{desk, atomBytes}
+use Rattle.covering.specs.Rule.{Rule}
+use Rattle.unification.specs.Examples.{at1, at2}
+use Rattle.exploration.specs.Run.{too-long, none-left, refused}
+use Rattle.exploration.specs.Examples.{BookExample, Example, rewriting, limited, answering, v0, v1, v2, c0, rule}
+use Rattle.exploration.specs.Examples.{rule9, question9, answered, untouched, header}
+use Rattle.exploration.specs.Examples.{printed-book, printed-once, depth-two}
+
+-- a stored book: its relations' places, how many constants, the explorations allowed, its rules and its question
+abbrev ruleBytes : Rule → List ℕ
+ruleBytes r = length (r .body) ∷ length (r .head) ∷ gather (atomBytes desk) (r .body ++ r .head)
+
+abbrev stored : List ℕ → ℕ → ℕ → List Rule → Question → List ℕ
+stored places C L rules Q =
+    let rs = gather ruleBytes rules in
+    let at-rules = 18 + length places in
+    let at-question = at-rules + length rs in
+    let ends = at-question + 5 * length Q in
+    header (length places ∷ C ∷ length rules ∷ length Q ∷ L ∷ 18 ∷ at-rules ∷ at-question ∷ ends ∷ [])
+    ++ (places ++ (rs ++ gather (atomBytes desk) Q))
+
+-- so many relations of one place
+abbrev ones : ℕ → List ℕ
+ones n = replicate n 1
+
+-- 10. "Rules pi(x) to p0(x), i = 1 to 7; question p0(c0) p0(c1)"
+abbrev to-first : ℕ → Rule
+to-first i = rule (at1 i v0 ∷ []) (at1 0 v0 ∷ [])
+
+abbrev example10 : ℕ → ℕ → List ℕ
+example10 n L = stored (ones (1 + n)) 2 L (map to-first (numbers 1 n)) (at1 0 c0 ∷ at1 0 (con 1) ∷ [])
+
+-- "with L = 64 complete, 64 members"
+abbrev pub example10-whole : BookExample
+example10-whole = answered (example10 7 64) (0, 712) (64 ∷ 0 ∷ 64 ∷ 0 ∷ 8 ∷ 0 ∷ 200 ∷ 2 ∷ [])
+
+-- "with L = 63 refusal 10"
+abbrev pub example10-less : BookExample
+example10-less = answered (example10 7 63) (10, 63) untouched
+
+-- "An eighth rule and L = 1,000: refusal 9."
+abbrev pub example10-eighth : BookExample
+example10-eighth = answered (example10 8 1000) (9, 9) untouched
+
+-- 11. "p(x,y) p(y,z) to p(x,z); question p(c0,c1); L = 100: refusal 8, place 8."
+abbrev pub example11 : BookExample
+example11 =
+    answered
+    (stored (2 ∷ []) 2 100 (rule (at2 0 v0 v1 ∷ at2 0 v1 v2 ∷ []) (at2 0 v0 v2 ∷ []) ∷ []) (at2 0 c0 (con 1) ∷ []))
+    (8, 8) untouched
+
+-- "Take up the oldest unexplored member; go through rules in book order": p1(x) to p0(x), p2(x) to p0(x), p3(x) to
+-- p1(x), p4(x) to p2(x), question p0(v1) p0(v1), whose form is p0(v0). The members are p0(v0) to p4(v0) in this order;
+-- the newest first, or the rules from the last on, would give another.
+abbrev pub oldest-first : BookExample
+oldest-first =
+    answered
+    (stored (ones 5) 0 10
+    (to-first 1
+    ∷ to-first 2
+    ∷ rule (at1 3 v0 ∷ []) (at1 1 v0 ∷ [])
+    ∷ rule (at1 4 v0 ∷ []) (at1 2 v0 ∷ [])
+    ∷ [])
+    (at1 0 v1 ∷ at1 0 v1 ∷ []))
+    (0, 38)
+    (5 ∷ 0 ∷ 5 ∷ 0 ∷ 8 ∷ 0 ∷ 38 ∷ 0
+    ∷ 1 ∷ 0 ∷ 0 ∷ 255 ∷ 255 ∷ 255
+    ∷ 1 ∷ 1 ∷ 0 ∷ 255 ∷ 255 ∷ 255
+    ∷ 1 ∷ 2 ∷ 0 ∷ 255 ∷ 255 ∷ 255
+    ∷ 1 ∷ 3 ∷ 0 ∷ 255 ∷ 255 ∷ 255
+    ∷ 1 ∷ 4 ∷ 0 ∷ 255 ∷ 255 ∷ 255 ∷ untouched)
+
+-- "choices in theirs": of example 9 the choices of one piece, 0 1 and 1 0, come before the choice of both, 1 1. In
+-- descending order they would come after it.
+abbrev pub choices-in-order : Example
+choices-in-order =
+    let one-piece = at2 1 v0 v0 ∷ at1 0 v0 ∷ [] in
+    rewriting rule9 question9 (one-piece ∷ one-piece ∷ (at1 0 v0 ∷ []) ∷ [])
+
+-- "it still counts as explored": p0(x) to p1(x), question p0(v0) p1(v0). Its rewriting p0(v0) covers it. There is one
+-- member and two are explored; if the members were counted it would be one.
+abbrev pub removed : BookExample
+removed =
+    answered (stored (ones 2) 0 10 (rule (at1 0 v0 ∷ []) (at1 1 v0 ∷ []) ∷ []) (at1 0 v0 ∷ at1 1 v0 ∷ [])) (0, 14)
+    (1 ∷ 0 ∷ 2 ∷ 0 ∷ 8 ∷ 0 ∷ 14 ∷ 0 ∷ 1 ∷ 0 ∷ 0 ∷ 255 ∷ 255 ∷ 255 ∷ untouched)
+
+-- "If the member taken up is itself removed, its exploration stops at once": p0(x) to p1(x), p5(x) p6(x) p7(x) p8(x)
+-- to p2(x), question p0(v0) p1(v0) p2(c0) p3(c1) p3(c2) p3(c3). Its first rewriting covers it. Explored further, it
+-- would have one of nine atoms by the second rule, and be refused with 8.
+abbrev pub stops-at-once : BookExample
+stops-at-once =
+    answered
+    (stored (ones 9) 4 10
+    (rule (at1 0 v0 ∷ []) (at1 1 v0 ∷ [])
+    ∷ rule (at1 5 v0 ∷ at1 6 v0 ∷ at1 7 v0 ∷ at1 8 v0 ∷ []) (at1 2 v0 ∷ [])
+    ∷ [])
+    (at1 0 v0 ∷ at1 1 v0 ∷ at1 2 c0 ∷ at1 3 (con 1) ∷ at1 3 (con 2) ∷ at1 3 (con 3) ∷ []))
+    (0, 75) (2 ∷ 0 ∷ 3 ∷ 0 ∷ 8 ∷ 0 ∷ 75 ∷ 0 ∷ [])
+
+-- "If a member covers the new rewriting it is dropped .. Otherwise apply refusal 8": p1(x) p2(x) p3(x) pi(x) to p0(x),
+-- question p0(c0) p4(c1) .. p4(c5). The rewriting has nine atoms. With i = 0 the question covers it, and with 8 before
+-- the covering test it would be refused; with i = 5 it is refused.
+abbrev long : ℕ → List ℕ
+long i =
+    stored (ones 6) 6 10 (rule (at1 1 v0 ∷ at1 2 v0 ∷ at1 3 v0 ∷ at1 i v0 ∷ []) (at1 0 v0 ∷ []) ∷ [])
+    (at1 0 c0 ∷ map (λ c. at1 4 (con c)) (numbers 1 5))
+
+abbrev pub covered-long : BookExample
+covered-long = answered (long 0) (0, 39) (1 ∷ 0 ∷ 1 ∷ 0 ∷ 8 ∷ 0 ∷ 39 ∷ 0 ∷ [])
+
+abbrev pub uncovered-long : BookExample
+uncovered-long = answered (long 5) (8, 1) untouched
+
+-- "remove every member that it covers, apply 9": pi(x) to p0(x), i = 1 to n, and p0(c1) to p0(c0), question p0(c0)
+-- p0(c1) p0(c2), L = 1. The question and its rewritings by the first n rules are 1 + 3n members, as many as there is
+-- room for. The last rule gives p0(c1) p0(c2), which covers the question, so that there is room again, and since
+-- others are unexplored the run is refused with 10. With 9 before the removals it would be 9. At 01's limits n is 21.
+abbrev fillers : ℕ → List Rule
+fillers n = map to-first (numbers 1 n) ++ rule (at1 0 (con 1) ∷ []) (at1 0 c0 ∷ []) ∷ []
+
+abbrev three : Question
+three = at1 0 c0 ∷ at1 0 (con 1) ∷ at1 0 (con 2) ∷ []
+
+abbrev pub room-again : Example
+room-again = limited (record { cap = 8; room = 4 }) (fillers 1) 1 three (refused none-left 1)
+
+abbrev pub room-again-at-64 : BookExample
+room-again-at-64 = answered (stored (ones 22) 3 1 (fillers 21) three) (10, 1) untouched
+
+-- "8 before 9": p1(x) p2(x) to p0(x), question p0(c0), where a member may have one atom and there is room for one
+-- member. The rewriting has two atoms, and would be a second member. With 9 before 8 it would be 9.
+abbrev pub long-and-no-room : Example
+long-and-no-room =
+    limited (record { cap = 1; room = 1 }) (rule (at1 1 v0 ∷ at1 2 v0 ∷ []) (at1 0 v0 ∷ []) ∷ []) 10 (at1 0 c0 ∷ [])
+    (refused too-long 1)
+
+-- "The smallest applicable number among 1 to 7 wins": a book of no bytes is refused with 1 where the output has 2,631
+-- bytes, and with 2 where it has 2,632. With the book judged first it would be 2 both times.
+abbrev pub short-output : BookExample
+short-output = record { book = []; room = 2631; answer = (1, 0); bytes = untouched }
+
+abbrev pub no-book : BookExample
+no-book = answered [] (2, 0) untouched
+
+-- those that take long to compute last
+unfoldable pub more-examples : List Example
+more-examples =
+    answering printed-book
+    ∷ answering printed-once
+    ∷ answering depth-two
+    ∷ answering oldest-first
+    ∷ choices-in-order
+    ∷ answering removed
+    ∷ answering stops-at-once
+    ∷ answering covered-long
+    ∷ answering uncovered-long
+    ∷ room-again
+    ∷ long-and-no-room
+    ∷ answering short-output
+    ∷ answering no-book
+    ∷ answering example10-whole
+    ∷ answering example10-less
+    ∷ answering example10-eighth
+    ∷ answering example11
+    ∷ answering room-again-at-64
+    ∷ []

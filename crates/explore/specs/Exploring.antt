@@ -1,0 +1,41 @@
+-- What becomes of one member's exploration and of the run, as the code holds it.
+use mathlib.Core.Path.{_≡_}
+use mathlib.Core.List.{List}
+use mathlib.Core.Option.{some}
+use Prim.Native.Nat.{ℕ, _≤_}
+use Rattle.covering.specs.Term.{Question}
+use Rattle.covering.specs.Search.{covers}
+use Rattle.covering.specs.Record.{desk, questionOf, Fits}
+use Rattle.covering.specs.Buffer.{heldIn}
+use Rattle.covering.specs.Rule.{Rule}
+use Rattle.reading.specs.Book.{layoutOf}
+use Rattle.admit.specs.declared.Extent.{Extent}
+use Rattle.explore.specs.declared.Explored.{Explored}
+use Rattle.explore.specs.declared.Explored.the-variants.{Passed, Refused as NotExplored}
+use Rattle.explore.specs.declared.Ran.{Ran}
+use Rattle.explore.specs.declared.Ran.the-variants.{Complete, Refused as NotRun}
+use Rattle.exploration.specs.Run.{limits, Why, refusalNumber, passed, failed}
+use Rattle.exploration.specs.Run.{Outcome, complete, refused}
+use Rattle.exploration.specs.Run.{oldest, through, allRewritings}
+use Rattle.admit.specs.WorkingArray.{stateIn, Working}
+
+-- "the oldest unexplored member", as a record of 56 bytes
+abbrev pub OldestIs : List ℕ → Extent → List ℕ → Type 0
+OldestIs W e R = (M : Question) × (oldest (stateIn W e) ≡ some M) × (R ≡ heldIn desk 56 M)
+
+-- a member as a record of 56 bytes, the rest 255: it keeps to the book's relations, places and constants
+pub record MemberIn (B R : List ℕ) : Type 0 where
+  pub holds : R ≡ heldIn desk 56 (questionOf desk R)
+  pub fits : Fits (layoutOf B) (questionOf desk R)
+
+-- what becomes of the exploration of the member M, by these rules, and of the working array W
+abbrev pub ExploredIs : List Rule → Question → List ℕ → Extent → List ℕ → Explored → Type 0
+ExploredIs rules M W e X (Passed f) =
+    (through covers limits M (allRewritings rules M) (stateIn W e) ≡ passed (stateIn X f)) × Working X f
+ExploredIs rules M W e X (NotExplored n) =
+    (w : Why) × (through covers limits M (allRewritings rules M) (stateIn W e) ≡ failed w) × (n ≡ refusalNumber w)
+
+-- what becomes of the run, whose outcome is o; complete, the working array X holds the members
+abbrev pub RanIs : Outcome → List ℕ → Ran → Type 0
+RanIs o X (Complete f n) = (o ≡ complete (stateIn X f .members) n) × Working X f × (n ≤ 1000)
+RanIs o X (NotRun k p) = (w : Why) × (o ≡ refused w p) × (k ≡ refusalNumber w)

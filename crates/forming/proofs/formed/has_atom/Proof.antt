@@ -1,0 +1,79 @@
+-- `cover::formed::has_atom` meets its contract. The loop's invariant: the atom is among those kept exactly where it
+-- is among those from here on, and these are sound. The measure is their number.
+use native.Mathlib.Omega.{arith}
+use mathlib.Core.Path.{_≡_, refl, sym, _∙_}
+use Rattle.covering.specs.Term.{eqAtom}
+use Rattle.covering.specs.Record.{desk, atomAt, atomsAt, questionOf}
+use Rattle.covering.specs.Buffer.{AtomsIn}
+use Rattle.forming.specs.Building.{has}
+use Rattle.forming.proofs.Passing.{in-next, some-none, some-hit, some-miss}
+use Rattle.forming.proofs.formed.has_atom.Statement.{statement}
+use Rattle.forming.proofs.formed.has_atom.Tie as tie
+
+abbrev Inv-loop : tie.InvT-loop
+Inv-loop kept from at i₀ left₀ i left =
+    AtomsIn desk kept i left
+    × (has eqAtom (questionOf desk kept) (atomAt desk from at)
+    ≡ has eqAtom (atomsAt desk kept i left) (atomAt desk from at))
+
+abbrev μ-loop : tie.MeasureT-loop
+μ-loop kept from at i₀ left₀ i left = left
+
+shared-slice-read-left : tie.Need-shared-slice-read-left Inv-loop μ-loop
+shared-slice-read-left c = omega arith
+
+cast-left : tie.Need-cast-left Inv-loop μ-loop
+cast-left c = omega (arith, c .shared-slice-known3 .given 0)
+
+loop-holds : tie.Need-loop-holds Inv-loop μ-loop
+unfolding questionOf
+loop-holds c = (c .before .before .before .pre .0, refl)
+
+same-atom-requires : tie.Need-same-atom-requires Inv-loop μ-loop
+same-atom-requires c κs =
+    let l = c .before in
+    (in-next desk _ _ _ (l .loop .inv .0) (c .loop-test .taken) .0, l .before .before .before .before .pre .1)
+
+returns : tie.Need-returns Inv-loop μ-loop
+returns c =
+    let l = c .before .before .before in
+    sym
+    (l .loop .inv .1
+    ∙ some-hit desk _ _ _ _ (omega arith) (sym (c .before .same-atom .ensures) ∙ c .if1 .taken))
+
+add-i : tie.Need-add-i Inv-loop μ-loop
+add-i c = omega arith
+
+sub-left : tie.Need-sub-left Inv-loop μ-loop
+sub-left c = omega arith
+
+loop-less : tie.Need-loop-less Inv-loop μ-loop
+loop-less c = omega arith
+
+loop-again : tie.Need-loop-again Inv-loop μ-loop
+loop-again c =
+    let l = c .before .before .before in (
+      in-next desk _ _ _ (l .loop .inv .0) (omega arith) .1,
+      l .loop .inv .1
+          ∙ some-miss desk _ _ _ _ (omega arith) (sym (c .before .same-atom .ensures) ∙ c .if1 .left),
+    )
+
+returns-2 : tie.Need-returns-2 Inv-loop μ-loop
+returns-2 c = sym (c .before .loop .inv .1 ∙ some-none desk _ _ _ _ (omega arith))
+
+pub has-atom-spec : {M : Type 1} → statement M
+has-atom-spec =
+    tie.close
+    (tie.spec
+    Inv-loop
+    μ-loop
+    shared-slice-read-left
+    cast-left
+    loop-holds
+    same-atom-requires
+    returns
+    add-i
+    sub-left
+    loop-less
+    loop-again
+    returns-2)

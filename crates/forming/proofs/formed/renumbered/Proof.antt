@@ -1,0 +1,111 @@
+-- `cover::formed::renumbered` meets its contract. The loop's invariant: the atoms passed are written renumbered, and
+-- there is room for those from here on. The measure is the number of these.
+use borrow.Author.Needs.{needs}
+use native.Mathlib.Omega.{arith}
+use mathlib.Core.Path.{_≡_, refl, ap, _∙_}
+use mathlib.Core.List.{[], _∷_, _++_}
+use Rattle.covering.specs.Term.{Question, on-question}
+use Rattle.covering.specs.Form.{numbering}
+use Rattle.covering.specs.Record.{desk, atomAt, atomsAt, questionOf}
+use Rattle.covering.specs.Buffer.{heldIn, AtomsIn}
+use Rattle.covering.proofs.Within.{sound-in}
+use Rattle.covering.proofs.RoundTrip.{desk-apart}
+use Rattle.forming.proofs.Passing.{in-next, split-done, split-in, split-next}
+use Rattle.forming.proofs.Growing.{Grows, grows-none, grows-room, grows-on, table-numbers, table-fits}
+use Rattle.forming.proofs.formed.renumbered.Statement.{statement}
+use Rattle.forming.proofs.formed.renumbered.Tie as tie
+
+abbrev Inv-loop : tie.InvT-loop
+Inv-loop member table done₀ at₀ left₀ done at left =
+    AtomsIn desk member at left
+    × ((P : Question)
+    × Grows desk 56 done (on-question (numbering (questionOf desk member)) P) left
+    × (questionOf desk member ≡ P ++ atomsAt desk member at left))
+
+abbrev μ-loop : tie.MeasureT-loop
+μ-loop member table done₀ at₀ left₀ done at left = left
+
+numbers-of-requires : tie.Need-numbers-of-requires Inv-loop μ-loop
+numbers-of-requires c κs = search needs
+
+no-atoms-requires : tie.Need-no-atoms-requires Inv-loop μ-loop
+no-atoms-requires c κs = search needs
+
+shared-slice-read-left : tie.Need-shared-slice-read-left Inv-loop μ-loop
+shared-slice-read-left c = omega (arith, c .before .before .before .before .pre .fits)
+
+cast-left : tie.Need-cast-left Inv-loop μ-loop
+cast-left c = omega (arith, c .shared-slice-known2 .given 0)
+
+loop-holds : tie.Need-loop-holds Inv-loop μ-loop
+unfolding questionOf
+loop-holds c =
+    let p = c .before .before .before .before .pre in
+    (sound-in desk _ p, ([], grows-none desk 56 _ _ (c .before .no-atoms .ensures) (omega (arith, p .most)), refl))
+
+put-on-requires : tie.Need-put-on-requires Inv-loop μ-loop
+put-on-requires c κs =
+    let l = c .before in
+    let s = l .loop .inv .1 in
+    let some = c .loop-test .taken in
+    let here = split-in desk _ _ _ _ (s .0) (s .2) some in
+    let b = l .before .before .before in (
+      grows-room desk desk-apart 56 _ _ _ (s .1) some,
+      in-next desk _ _ _ (l .loop .inv .0) some .0,
+      table-fits _ (b .before .before .pre) _ (b .numbers-of .ensures) _ here,
+    )
+
+add-at : tie.Need-add-at Inv-loop μ-loop
+add-at c = omega arith
+
+sub-left : tie.Need-sub-left Inv-loop μ-loop
+sub-left c = omega arith
+
+loop-less : tie.Need-loop-less Inv-loop μ-loop
+loop-less c = omega arith
+
+loop-again : tie.Need-loop-again Inv-loop μ-loop
+loop-again c =
+    let l = c .before .before in
+    let s = l .loop .inv .1 in
+    let some = c .before .loop-test .taken in
+    let here = split-in desk _ _ _ _ (s .0) (s .2) some in
+    let b = l .before .before .before in
+    let m = b .before .before .args .member .now in
+    let a = atomAt desk m (l .loop .at) in
+    let p = b .before .before .pre in
+    let fits = table-fits _ p _ (b .numbers-of .ensures) _ here in
+    let same = table-numbers _ p _ (b .numbers-of .ensures) _ here in (
+      in-next desk _ _ _ (l .loop .inv .0) some .1,
+      (
+        s .0 ++ a ∷ [],
+        grows-on desk desk-apart 56 (numbering (questionOf desk m)) _ _ _ (s .0) a _ (s .1) some same fits
+            (c .put-on .ensures),
+        split-next desk _ _ _ _ (s .0) (s .2) some,
+      ),
+    )
+
+returns : tie.Need-returns Inv-loop μ-loop
+returns c =
+    let s = c .before .loop .inv .1 in
+    let q = questionOf desk (c .before .before .before .before .before .before .args .member .now) in
+    s .1 .bytes
+    ∙ ap (λ A. heldIn desk 56 (on-question (numbering q) A)) (split-done desk _ _ _ _ (s .0) (s .2) (omega arith))
+
+pub renumbered-spec : {M : Type 1} → statement M
+renumbered-spec =
+    tie.close
+    (tie.spec
+    Inv-loop
+    μ-loop
+    numbers-of-requires
+    no-atoms-requires
+    shared-slice-read-left
+    cast-left
+    loop-holds
+    put-on-requires
+    add-at
+    sub-left
+    loop-less
+    loop-again
+    returns)

@@ -1,0 +1,19 @@
+-- `cover::formed::replaced` meets its contract: a variable's byte is the table's, any other stays.
+use borrow.Author.Needs.{needs}
+use native.Mathlib.Omega.{arith}
+use mathlib.Core.Path.{sym}
+use Rattle.forming.proofs.AtomBytes.{variable-on, constant-on}
+use Rattle.forming.proofs.formed.replaced.Statement.{statement}
+use Rattle.forming.proofs.formed.replaced.Tie as tie
+
+returns : tie.Need-returns
+returns c = sym (constant-on _ _ (c .before .pre (c .if1 .taken)))
+
+array-read-result : tie.Need-array-read-result
+array-read-result c = search needs
+
+returns-2 : tie.Need-returns-2
+returns-2 c = let h = c .if1 .left in sym (variable-on _ _ (omega arith))
+
+pub replaced-spec : {M : Type 1} → statement M
+replaced-spec = tie.close (tie.spec returns array-read-result returns-2)

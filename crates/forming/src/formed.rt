@@ -1,0 +1,254 @@
+// The form of a member record: equal atoms are dropped but for the first, then variables are numbered 0, 1, .. by
+// first appearance. A record is built at the front of 56 bytes, the rest 255.
+ghost use mathlib.Core.Path.{_≡_};
+ghost use mathlib.Core.List.{List, [], _∷_, _++_};
+ghost use Prim.Native.Nat.{ℕ, _+_, _≤_, _<_};
+ghost use lib.ListN.{getD};
+ghost use Rattle.covering.specs.Term.{on-term, on-atom, eqAtom, terms};
+ghost use Rattle.covering.specs.Form.{dedup, firsts, renumber, form};
+ghost use Rattle.covering.specs.Record.{desk, termOf, byteOf, atomAt, questionOf, atomBytes};
+ghost use Rattle.covering.specs.Buffer.{heldIn, AtomIn, AtomsIn};
+ghost use Rattle.covering.specs.Buffer.{RoomLeft};
+ghost use Rattle.covering.specs.Record.{AtomFits};
+ghost use Rattle.covering.specs.Record.{SoundRecord};
+ghost use Rattle.forming.specs.Building.{has, added, seen, allSeen, newNumber, subOf};
+ghost use Rattle.forming.specs.Building.{NumberTable};
+
+// The new numbers given so far, 255 for none yet, and how many there are.
+struct Numbers {
+    table: [u8; 64],
+    count: u8,
+}
+
+// A record with no atom yet.
+pub fn no_atoms() -> [u8; 56]
+    ensures { λ r. ⌜ r ≡ heldIn desk 56 [] ⌝ }
+{
+    let mut kept = [255u8; 56];
+    kept[0] = 0;
+    kept
+}
+
+// Whether the atom of first at i is the atom of second at k: the same five bytes.
+fn same_atom(first: &[u8], second: &[u8], i: usize, k: usize) -> bool
+    requires { ⌜ AtomIn desk (now first) i × AtomIn desk (now second) k ⌝ }
+    ensures { λ r. ⌜ r ≡ eqAtom (atomAt desk (now (first .entry)) i) (atomAt desk (now (second .entry)) k) ⌝ }
+{
+    let mut j = 0;
+    while j < 5 {
+        if first[i + j] != second[k + j] {
+            return false;
+        }
+        j += 1;
+    }
+    true
+}
+
+// Whether the atom of from at `at` is among the atoms of kept.
+fn has_atom(kept: &[u8], from: &[u8], at: usize) -> bool
+    requires { ⌜ AtomsIn desk (now kept) 1 (getD (now kept) 0 0) × AtomIn desk (now from) at ⌝ }
+    ensures { λ r. ⌜ r
+        ≡ has eqAtom (questionOf desk (now (kept .entry))) (atomAt desk (now (from .entry)) at) ⌝ }
+{
+    let mut i = 1;
+    let mut left = kept[0] as usize;
+    while 0 < left {
+        if same_atom(kept, from, i, at) {
+            return true;
+        }
+        i += 5;
+        left -= 1;
+    }
+    false
+}
+
+// The record with the atom of from at `at` after its own atoms. From may be any bytes that have an atom there.
+pub fn put_atom(kept: [u8; 56], from: &[u8], at: usize) -> [u8; 56]
+    requires { ⌜ RoomLeft desk 56 kept × AtomIn desk (now from) at ⌝ }
+    ensures { λ r. ⌜ r ≡ heldIn desk 56 (questionOf desk kept ++ atomAt desk (now (from .entry)) at ∷ []) ⌝ }
+{
+    let n = kept[0];
+    let start = 1 + (n as usize) * 5;
+    let mut more = kept;
+    more[0] = n + 1;
+    let mut byte = 0;
+    while byte < 5 {
+        more[start + byte] = from[at + byte];
+        byte += 1;
+    }
+    more
+}
+
+// The same where the atom is not among the record's own; else the record as it is.
+fn put_new(kept: [u8; 56], from: &[u8], at: usize) -> [u8; 56]
+    requires { ⌜ RoomLeft desk 56 kept × AtomIn desk (now from) at ⌝ }
+    ensures { λ r. ⌜ r ≡ heldIn desk 56 (added eqAtom (questionOf desk kept) (atomAt desk (now (from .entry)) at)) ⌝ }
+{
+    if has_atom(&kept, from, at) {
+        return kept;
+    }
+    put_atom(kept, from, at)
+}
+
+// The record with equal atoms dropped but for the first.
+fn drop_equal(member: &[u8]) -> [u8; 56]
+    requires { ⌜ SoundRecord desk (now member) ⌝ }
+    ensures { λ r. ⌜ r ≡ heldIn desk 56 (dedup (questionOf desk (now (member .entry)))) ⌝ }
+{
+    let mut kept = no_atoms();
+    let n = member[0] as usize;
+    let mut left = n;
+    while 0 < left {
+        let at = 1 + (n - left) * 5;
+        let more = put_new(kept, member, at);
+        kept = more;
+        left -= 1;
+    }
+    kept
+}
+
+// Gives the term t the next number, if it is a variable that has none.
+fn number_term(table: [u8; 64], count: u8, t: u8) -> Numbers
+    requires { ⌜ (64 ≤ t → 128 ≤ t) × (count < 64) ⌝ }
+    ensures { λ r. ⌜ (r .count ≤ count + 1)
+        × ((S : List ℕ) → NumberTable S table count → NumberTable (seen S (termOf t)) (r .table) (r .count)) ⌝ }
+{
+    if 64 <= t {
+        return Numbers {
+            table: table,
+            count: count,
+        };
+    }
+    let at = t as usize;
+    if table[at] != 255 {
+        return Numbers {
+            table: table,
+            count: count,
+        };
+    }
+    let mut more = table;
+    more[at] = count;
+    Numbers {
+        table: more,
+        count: count + 1,
+    }
+}
+
+// Numbers the variables of the atom of from at `at`, in order.
+fn number_atom(table: [u8; 64], count: u8, from: &[u8], at: usize) -> Numbers
+    requires { ⌜ AtomIn desk (now from) at × (count + 4 ≤ 64) ⌝ }
+    ensures { λ r. ⌜ (r .count ≤ count + 4)
+        × ((S : List ℕ)
+        → NumberTable S table count
+        → NumberTable (allSeen S (atomAt desk (now (from .entry)) at .args)) (r .table) (r .count)) ⌝ }
+{
+    let mut known = table;
+    let mut given = count;
+    let mut j = 0;
+    while j < 4 {
+        let t = from[at + 1 + j];
+        if t == 255 {
+            return Numbers {
+                table: known,
+                count: given,
+            };
+        }
+        let step = number_term(known, given, t);
+        known = step.table;
+        given = step.count;
+        j += 1;
+    }
+    Numbers {
+        table: known,
+        count: given,
+    }
+}
+
+// The new number of each variable of the record, by first appearance, and 255 for any other.
+fn numbers_of(member: &[u8]) -> [u8; 64]
+    requires { ⌜ SoundRecord desk (now member) ⌝ }
+    ensures { λ r. ⌜ ((n : ℕ)
+        → n < 64
+        → getD r n 0 ≡ newNumber (firsts (terms (questionOf desk (now (member .entry))))) n) ⌝ }
+{
+    let mut table = [255u8; 64];
+    let mut count = 0;
+    let mut at = 1;
+    let mut left = member[0] as usize;
+    while 0 < left {
+        let step = number_atom(table, count, member, at);
+        table = step.table;
+        count = step.count;
+        at += 5;
+        left -= 1;
+    }
+    table
+}
+
+// The byte t with a variable replaced by what the table has for it: a constant stays, and so does 255.
+fn replaced(table: [u8; 64], t: u8) -> u8
+    requires { ⌜ (64 ≤ t → 128 ≤ t) ⌝ }
+    ensures { λ r. ⌜ r ≡ byteOf (on-term (subOf table) (termOf t)) ⌝ }
+{
+    if 64 <= t {
+        return t;
+    }
+    table[t as usize]
+}
+
+// The bytes of the atom of from at `at`, each variable replaced by the term whose byte the table has for it.
+fn atom_on(table: [u8; 64], from: &[u8], at: usize) -> [u8; 5]
+    requires { ⌜ AtomIn desk (now from) at ⌝ }
+    ensures { λ r. ⌜ r ≡ atomBytes desk (on-atom (subOf table) (atomAt desk (now (from .entry)) at)) ⌝ }
+{
+    let mut atom = [255u8; 5];
+    atom[0] = from[at];
+    let mut j = 1;
+    while j < 5 {
+        atom[j] = replaced(table, from[at + j]);
+        j += 1;
+    }
+    atom
+}
+
+// The record with that atom, its variables so replaced, after its own.
+pub fn put_on(kept: [u8; 56], table: [u8; 64], from: &[u8], at: usize) -> [u8; 56]
+    requires { ⌜ RoomLeft desk 56 kept
+        × AtomIn desk (now from) at
+        × AtomFits desk (on-atom (subOf table) (atomAt desk (now from) at)) ⌝ }
+    ensures { λ r. ⌜ r
+        ≡ heldIn
+        desk
+        56
+        (questionOf desk kept ++ on-atom (subOf table) (atomAt desk (now (from .entry)) at) ∷ []) ⌝ }
+{
+    let atom = atom_on(table, from, at);
+    put_atom(kept, &atom, 0)
+}
+
+// The record with its variables numbered by first appearance.
+fn renumbered(member: &[u8]) -> [u8; 56]
+    requires { ⌜ SoundRecord desk (now member) ⌝ }
+    ensures { λ r. ⌜ r ≡ heldIn desk 56 (renumber (questionOf desk (now (member .entry)))) ⌝ }
+{
+    let table = numbers_of(member);
+    let mut done = no_atoms();
+    let mut at = 1;
+    let mut left = member[0] as usize;
+    while 0 < left {
+        let more = put_on(done, table, member, at);
+        done = more;
+        at += 5;
+        left -= 1;
+    }
+    done
+}
+
+// The form of the record: equal atoms dropped but for the first, then variables numbered.
+pub fn in_form(member: [u8; 56]) -> [u8; 56]
+    requires { ⌜ SoundRecord desk member ⌝ }
+    ensures { λ r. ⌜ r ≡ heldIn desk 56 (form (questionOf desk member)) ⌝ }
+{
+    let kept = drop_equal(&member);
+    renumbered(&kept)
+}

@@ -1,0 +1,119 @@
+-- For whoever lists from a sound book: its rules and its question are what `next` asks for, and what `next` finds is
+-- numbered from where it was asked on and below the count of choices. Assumes nothing.
+use mathlib.Core.Path.{_≡_, refl, sym, _∙_, ap, subst}
+use mathlib.Core.Bool.{true, false}
+use mathlib.Core.List.{List}
+use mathlib.Core.Option.{Option, none, some}
+use Prim.Native.Nat.{ℕ, _≤_, _<_}
+use native.Mathlib.Omega.{arith}
+use lib.ListN.{length, getD}
+use Rattle.covering.specs.Term.{Question}
+use Rattle.covering.specs.Record.{desk, questionOf, Fits}
+use Rattle.covering.specs.Record.{SoundRecord}
+use Rattle.covering.proofs.Wider.{Wider}
+use Rattle.covering.proofs.Lengths.{count-atoms, question-count}
+use Rattle.covering.specs.Buffer.{heldIn}
+use Rattle.covering.proofs.Padded.{held-sound, held-written}
+use Rattle.reading.proofs.Fits.{question-record}
+use Rattle.lister.proofs.RewritingBytes.{book-desk, book-apart}
+use Rattle.book.specs.declared.Parts.{Parts}
+use Rattle.reading.specs.Header.{rules, atoms}
+use Rattle.reading.specs.Book.{ruleAt, ruleStart, bookOf, layoutOf}
+use Rattle.reading.specs.Verdict.{SoundBook}
+use Rattle.book.specs.Parts.{partsAt}
+use Rattle.reading.proofs.SoundBook.{sound-header, sound-rule, sound-question, sound-body, sound-head}
+use Rattle.reading.proofs.SoundBook.{BookRoom}
+use Rattle.lister.specs.declared.Found.{Found}
+use Rattle.unification.specs.Choice.{mostChoices}
+use Rattle.unification.specs.Step.{next}
+use Rattle.unify.specs.InBytes.{inBook, ruleIn}
+use Rattle.lister.specs.Asking.{ruleOf, RuleIn, QuestionIn, foundOf}
+use Rattle.unification.proofs.Following.{next-listed, listed-below}
+use Rattle.lister.proofs.Asked.{count-few}
+
+-- the record of a question that keeps to the book's bounds can be handed to the lister
+pub held-in : (M : Question) → Fits inBook M → QuestionIn (heldIn desk 56 M)
+held-in M fits = subst QuestionIn (held-written inBook desk book-desk 56 M) own
+  where
+    s : SoundRecord inBook (heldIn inBook 56 M)
+    s = held-sound inBook 56 M book-apart fits (omega (arith, fits .most))
+
+    own : QuestionIn (heldIn inBook 56 M)
+    own = record { atoms = record { fits = s .fits; sound = s .atoms }; few = s .most }
+
+module _ (B : List ℕ) (s : SoundBook B) where
+  pub own-wider : Wider (layoutOf B) inBook
+  own-wider =
+      record {
+        relations = sound-header B s .few-relations;
+        places = refl;
+        variables = omega arith;
+        constants = sound-header B s .few-constants;
+      }
+
+  room : BookRoom B inBook
+  room =
+      let k = sound-header B s in
+      record {
+        relations-fit = k .few-relations;
+        places-are = refl;
+        variables-fit = omega arith;
+        constants-fit = k .few-constants;
+      }
+
+  pub rule-in : (k : ℕ) → k < rules B → RuleIn B (partsAt B (ruleStart B k))
+  rule-in k l =
+      let r = sound-rule B s k l in
+      let q = sound-question B s in
+      record {
+        body =
+            record {
+              fits = omega (arith, r .ends, q .ends);
+              sound = sound-body B s inBook room k l;
+            };
+        head =
+            record {
+              fits = omega (arith, r .ends, q .ends);
+              sound = sound-head B s inBook room k l;
+            };
+        some-body = r .some-body;
+        few-body = r .few-body;
+        some-head = r .some-head;
+        few-head = r .few-head;
+      }
+
+  -- the question's record, as `question` gives it
+  pub question-in : (R : List ℕ) → R ≡ heldIn desk 56 (bookOf B .question) → QuestionIn R
+  question-in R e = subst QuestionIn (sym e) (held-in (bookOf B .question) (question-record B inBook room s (omega arith)))
+
+-- the rule that `next` is asked about is the book's
+pub rule-is : (B : List ℕ) (s : ℕ) → ruleOf B (partsAt B s) ≡ ruleAt B s
+unfolding ruleIn ruleAt
+rule-is B s = refl
+
+module _ (Q B : List ℕ) (p : Parts) (q : QuestionIn Q) (r : RuleIn B p) (from : ℕ) where
+  heads : length (ruleOf B p .head) ≡ p .heads
+  unfolding ruleIn
+  heads = count-atoms desk B (p .heads) (p .head)
+
+  long : length (questionOf desk Q) ≡ getD Q 0 0
+  long = question-count desk Q
+
+  pub found-within : (f : Found) → f ≡ foundOf (next 32 (ruleOf B p) (questionOf desk Q) from) → f .found ≡ true
+      → (from ≤ f .choice) × (f .choice < mostChoices)
+  found-within f e t = go (next 32 (ruleOf B p) (questionOf desk Q) from) refl e
+    where
+      go : (o : Option (ℕ × Question)) → next 32 (ruleOf B p) (questionOf desk Q) from ≡ o → f ≡ foundOf o
+          → (from ≤ f .choice) × (f .choice < mostChoices)
+      go none o a =
+          let z : true ≡ false = sym t ∙ ap (λ (x : Found). x .found) a in
+          let y : _≡_ {A = ℕ} 0 1 = cc in
+          absurd (omega arith)
+      go (some x) o a =
+          let c : f .choice ≡ x .0 = ap (λ (y : Found). y .choice) a in
+          let m = next-listed 32 (ruleOf B p) (questionOf desk Q) from x o in
+          let b = listed-below 32 (ruleOf B p) (questionOf desk Q) (x .0) (x .1) (m .0) in
+          let h =
+          count-few (length (ruleOf B p .head)) (length (questionOf desk Q)) (omega (arith, heads, r .few-head))
+          (omega (arith, long, q .few)) in
+          (omega (arith, c, m .1), omega (arith, c, b, h))

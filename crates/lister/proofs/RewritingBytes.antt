@@ -1,0 +1,314 @@
+-- Laws of the rewriting as it is written: atoms put one after the other, each class replaced by what stands for it.
+-- Assumes nothing.
+use mathlib.Core.Path.{_≡_, refl, sym, _∙_, ap, ap₂, subst}
+use mathlib.Core.List.{List, [], _∷_, _++_, map, append-assoc, append-nil, map-map, List·Memᴰ·head, List·Memᴰ·tail}
+use mathlib.Core.List.{List·Memᴰ·append-cases, List·Memᴰ·cases-cons, List·Memᴰ·not-nil, Memᴰ·of-map}
+use mathlib.Core.Bool.{true, false}
+use mathlib.Core.Logic.{_⊎_, inl, inr}
+use Prim.Native.Nat.{ℕ, zero, suc, _+_, _-_, _≤_, _<_}
+use native.Mathlib.Omega.{arith}
+use borrow.Author.Tests.{eqb-true, eqb-false, ltb-true, ltb-false}
+use lib.Dec.{T, eqb, ltb}
+use lib.ListN.{length, getD, set, length-map, length-append, length-set}
+use lib.Seq.{getD-set-same, getD-set-other}
+use Rattle.covering.specs.Lists.{_∈_}
+use Rattle.covering.specs.Term.{Term, var, con, Atom, Question, Sub, on-term, on-atom, on-question, comp}
+use Rattle.covering.specs.Record.{desk, size, termOf, atomAt, atomsAt, questionOf, areAtoms}
+use Rattle.covering.specs.Buffer.{heldIn, AtomIn, AtomsIn}
+use Rattle.covering.specs.Buffer.{RoomLeft}
+use Rattle.covering.specs.Record.{TermFits, AtomFits}
+use Rattle.covering.specs.Record.{SoundRecord}
+use Rattle.forming.specs.Building.{subOf}
+use Rattle.covering.proofs.Lists.{map-same, map-append}
+use Rattle.covering.proofs.Tests.{either}
+use Rattle.covering.proofs.Terms.{on-atom-comp, on-atom-same}
+use Rattle.covering.proofs.Places.{atoms-none, atoms-more, sound-more}
+use Rattle.covering.proofs.RoundTrip.{TellsApart}
+use Rattle.covering.proofs.Padded.{held-count, held-question, held-atoms, held-sound}
+use Rattle.covering.proofs.RoundTrip.{desk-apart}
+use Rattle.covering.proofs.Places.{question-at}
+use Rattle.covering.proofs.Lengths.{count-atoms, question-count}
+use Rattle.covering.proofs.Fitting.{atom-fits, atoms-fit}
+use Rattle.forming.proofs.Growing.{Grows, grows-question, grows-room, grows-put}
+use Rattle.covering.proofs.Wider.{Wider, atom-means, atoms-mean}
+use Rattle.covering.proofs.Within.{in-wider}
+use Rattle.book.specs.declared.Parts.{Parts}
+use Rattle.unification.specs.Step.{up, move, rewriting}
+use Rattle.unify.specs.Table.{tabled}
+use Rattle.unify.specs.InBytes.{inBook, classesOf, ruleIn}
+use Rattle.lister.specs.Asking.{ruleOf, ClassesFit, Filling, UpperHalf, LeftIn, RuleIn}
+use Rattle.unify.proofs.TableBytes.{classes-at}
+
+-- a book's atoms keep to the desk's layout
+pub book-desk : Wider inBook desk
+book-desk = record { relations = omega arith; places = refl; variables = omega arith; constants = omega arith }
+
+pub book-apart : TellsApart inBook
+book-apart = record { variables = omega arith; constants = omega arith }
+
+pub first-atom-in : (B : List ℕ) (i n : ℕ) → AtomsIn inBook B i n → 0 < n → AtomIn desk B i
+first-atom-in B i n a h =
+    let d = in-wider inBook desk book-desk desk-apart B i n a in
+    record { fits = omega (arith, d .fits); sound = sound-more desk B i n h (d .sound) .0 }
+
+pub rest-in : (B : List ℕ) (i n : ℕ) → AtomsIn inBook B i n → 0 < n → AtomsIn inBook B (i + 5) (n - 1)
+rest-in B i n a h = record { fits = omega (arith, a .fits); sound = sound-more inBook B i n h (a .sound) .1 }
+
+pub first-fits : (B : List ℕ) (i n : ℕ) → AtomsIn inBook B i n → 0 < n → AtomFits inBook (atomAt desk B i)
+first-fits B i n a h =
+    subst (AtomFits inBook) (atom-means inBook desk book-desk B i)
+    (atom-fits inBook book-apart B (omega arith) i (sound-more inBook B i n h (a .sound) .0))
+
+pub all-fit : (B : List ℕ) (i n : ℕ) → AtomsIn inBook B i n → (a : Atom) → a ∈ atomsAt desk B i n → AtomFits inBook a
+all-fit B i n s a m =
+    atoms-fit inBook book-apart B (omega arith) n i a (s .sound)
+    (subst (λ A. a ∈ A) (sym (atoms-mean inBook desk book-desk B i n)) m)
+
+-- what the table has for a variable
+module _ (table : List ℕ) (fit : ClassesFit table) (long : length table ≡ 64) where
+  in-classes : (m : List ℕ) (n : ℕ) → n < length m → termOf (getD m n 0) ∈ classesOf m
+  unfolding classesOf
+  in-classes (x ∷ m) zero h = List·Memᴰ·head refl
+  in-classes (x ∷ m) (suc n) h = List·Memᴰ·tail (in-classes m n (omega arith))
+
+  sub-fits : (n : ℕ) → n < 64 → TermFits desk (subOf table n)
+  unfolding subOf
+  sub-fits n h = fit (termOf (getD table n 0)) (in-classes table n (omega arith))
+
+  term-on : (t : Term) → TermFits inBook t → TermFits desk (on-term (subOf table) t)
+  term-on (var n) h = sub-fits n (omega arith)
+  term-on (con c) h = h
+
+  pub atom-on : (a : Atom) → AtomFits inBook a → AtomFits desk (on-atom (subOf table) a)
+  atom-on a f =
+      record {
+        relation = f .relation;
+        some-place = subst (λ n. 1 ≤ n) (sym (length-map (a .args) (on-term (subOf table)))) (f .some-place);
+        places = subst (λ n. n ≤ 4) (sym (length-map (a .args) (on-term (subOf table)))) (f .places);
+        terms = λ t m. go t (Memᴰ·of-map (on-term (subOf table)) (a .args) m);
+      }
+    where
+      go : (t : Term) → (u : Term) × (u ∈ a .args) × (on-term (subOf table) u ≡ t) → TermFits desk t
+      go t r = subst (TermFits desk) (r .2) (term-on (r .0) (f .terms (r .0) (r .1)))
+
+-- a record under construction
+filling-grows : (A : List ℕ) (n : ℕ) → Filling A n → Grows desk 56 A (questionOf desk A) n
+filling-grows A n f =
+    record {
+      bytes = f .holds;
+      each =
+          λ a m.
+          atoms-fit desk desk-apart A (omega arith) (getD A 0 0) 1 a (f .atoms)
+          (subst (λ (q : Question). a ∈ q) (question-at desk A refl) m);
+      room = rw (question-count desk A) (omega (arith, f .room));
+    }
+
+grows-filling : (B : List ℕ) (A : Question) (n : ℕ) → Grows desk 56 B A n → Filling B n
+grows-filling B A n g =
+    record {
+      holds = g .bytes ∙ ap (heldIn desk 56) (sym (grows-question desk desk-apart 56 B A n g));
+      atoms =
+          subst (λ X. T (areAtoms desk X 1 (getD X 0 0))) (sym (g .bytes)) (held-atoms desk 56 A desk-apart (g .each));
+      room = omega (arith, g .room, ap (λ X. getD X 0 0) (g .bytes) ∙ held-count desk 56 A);
+    }
+
+pub filling-room : (A : List ℕ) (n : ℕ) → Filling A n → 0 < n → RoomLeft desk 56 A
+filling-room A n f h = grows-room desk desk-apart 56 A (questionOf desk A) n (filling-grows A n f) h
+
+pub filling-put : (A R : List ℕ) (n : ℕ) (a : Atom) → Filling A n → 0 < n → AtomFits desk a
+    → R ≡ heldIn desk 56 (questionOf desk A ++ a ∷ []) → Filling R (n - 1) × (questionOf desk R ≡ questionOf desk A ++ a ∷ [])
+filling-put A R n a f h fit e =
+    let g = grows-put desk desk-apart 56 A (questionOf desk A) n (filling-grows A n f) R a fit h e in (
+      grows-filling R (questionOf desk A ++ a ∷ []) (n - 1) g,
+      grows-question desk desk-apart 56 R (questionOf desk A ++ a ∷ []) (n - 1) g,
+    )
+
+pub filling-none : (R : List ℕ) (n : ℕ) → R ≡ heldIn desk 56 [] → n ≤ 11 → Filling R n
+filling-none R n e h =
+    grows-filling R [] n (record { bytes = e; each = λ a m. absurd (List·Memᴰ·not-nil m); room = omega arith })
+
+-- one atom more of those that are put, the rest from the next on
+pub put-more : (s : Sub) (A R F : List ℕ) (i n : ℕ) → 0 < n
+    → questionOf desk R ≡ questionOf desk A ++ on-atom s (atomAt desk F i) ∷ []
+    → questionOf desk A ++ on-question s (atomsAt desk F i n)
+    ≡ questionOf desk R ++ on-question s (atomsAt desk F (i + 5) (n - 1))
+put-more s A R F i n h e =
+    ap (λ q. questionOf desk A ++ on-question s q) (atoms-more desk F i n h)
+    ∙ sym (append-assoc (questionOf desk A) (on-atom s (atomAt desk F i) ∷ []) _)
+    ∙ ap (λ q. q ++ on-question s (atomsAt desk F (i + 5) (n - 1))) (sym e)
+
+pub put-none : (s : Sub) (A F : List ℕ) (i n k : ℕ) → n ≡ 0 → Filling A k
+    → A ≡ heldIn desk 56 (questionOf desk A ++ on-question s (atomsAt desk F i n))
+put-none s A F i n k e f =
+    f .holds
+    ∙ ap (heldIn desk 56)
+    (sym (ap (λ q. questionOf desk A ++ on-question s q) (atoms-none desk F i n e) ∙ append-nil (questionOf desk A)))
+
+-- the upper half, of which the first i entries are moved down
+pub record Half (table upper : List ℕ) (i : ℕ) : Type 0 where
+  pub moved : (n : ℕ) → n < i → getD upper n 0 ≡ getD table (n + 32) 0
+  pub others : (n : ℕ) → i ≤ n → getD upper n 0 ≡ getD table n 0
+  pub size : length upper ≡ length table
+
+pub half-none : (table : List ℕ) → Half table table 0
+half-none table = record { moved = λ n h. absurd (omega arith); others = λ n h. refl; size = refl }
+
+pub half-more : (table upper : List ℕ) (i : ℕ) → i < length upper → Half table upper i
+    → Half table (set upper i (getD table (i + 32) 0)) (i + 1)
+half-more table upper i h f =
+    record {
+      moved = λ n lt. go n lt (either (eqb n i));
+      others = λ n le. getD-set-other upper i n _ 0 (λ e. omega arith) ∙ f .others n (omega arith);
+      size = length-set upper i _ ∙ f .size;
+    }
+  where
+    go : (n : ℕ) → n < i + 1 → (eqb n i ≡ true) ⊎ (eqb n i ≡ false)
+        → getD (set upper i (getD table (i + 32) 0)) n 0 ≡ getD table (n + 32) 0
+    go n lt (inl e) = rw (eqb-true n i e) (getD-set-same upper i (getD table (i + 32) 0) 0 h)
+    go n lt (inr e) =
+        let ne = eqb-false n i e in
+        getD-set-other upper i n (getD table (i + 32) 0) 0 ne ∙ f .moved n (omega arith)
+
+pub half-all : (table upper : List ℕ) (i : ℕ) → i ≡ 32 → Half table upper i → UpperHalf table upper
+half-all table upper i e f =
+    record {
+      moved = λ n h. f .moved n (omega arith);
+      others = λ n h. f .others n (omega arith);
+      size = f .size;
+    }
+
+-- a table whose every entry fits
+fits-all : (m : List ℕ) → ((n : ℕ) → n < length m → TermFits desk (termOf (getD m n 0))) → ClassesFit m
+unfolding classesOf
+fits-all [] f t i = absurd (List·Memᴰ·not-nil i)
+fits-all (x ∷ m) f t i = go (List·Memᴰ·cases-cons i) (λ j. fits-all m (λ n h. f (suc n) (omega arith)) t j)
+  where
+    go : (t ≡ termOf x) ⊎ (t ∈ map termOf m) → (t ∈ map termOf m → TermFits desk t) → TermFits desk t
+    go (inl e) below = subst (TermFits desk) (sym e) (f 0 (omega arith))
+    go (inr j) below = below j
+
+pub upper-fits : (table upper : List ℕ) → ClassesFit table → length table ≡ 64 → UpperHalf table upper → ClassesFit upper
+upper-fits table upper fit long u = fits-all upper (λ n h. go n (omega (arith, u .size)) (either (ltb n 32)))
+  where
+    at : (n : ℕ) → n < 64 → TermFits desk (termOf (getD table n 0))
+    at n h = fit (termOf (getD table n 0)) (in-classes table fit long table n (omega arith))
+
+    go : (n : ℕ) → n < 64 → (ltb n 32 ≡ true) ⊎ (ltb n 32 ≡ false) → TermFits desk (termOf (getD upper n 0))
+    go n h (inl e) =
+        let lt = ltb-true n 32 e in
+        subst (λ b. TermFits desk (termOf b)) (sym (u .moved n lt)) (at (n + 32) (omega arith))
+    go n h (inr e) = subst (λ b. TermFits desk (termOf b)) (sym (u .others n (ltb-false n 32 e))) (at n h)
+
+-- two substitutions that agree on the variables of a book's atoms
+on-question-same : (s t : Sub) (A : Question) → ((a : Atom) → a ∈ A → AtomFits inBook a)
+    → ((n : ℕ) → n < 32 → s n ≡ t n) → on-question s A ≡ on-question t A
+on-question-same s t A f h = map-same (on-atom s) (on-atom t) A (λ a m. on-atom-same s t a (λ u i. one u (f a m .terms u i)))
+  where
+    one : (u : Term) → TermFits inBook u → on-term s u ≡ on-term t u
+    one (var n) k = h n k
+    one (con c) k = refl
+
+-- The rewriting: the left atoms by the classes, then the body by their upper half.
+module _ (left book table upper : List ℕ) (p : Parts) (li : LeftIn left) (few : getD left 0 0 ≤ 7) (ru : RuleIn book p)
+    (fit : ClassesFit table) (long : length table ≡ 64) (uh : UpperHalf table upper) where
+  abbrev L′ : Question
+  L′ = on-question (subOf table) (atomsAt desk left 1 (getD left 0 0))
+
+  abbrev B′ : Question
+  B′ = on-question (subOf upper) (atomsAt desk book (p .body) (p .bodies))
+
+  mapped-fit : (m : List ℕ) → ClassesFit m → length m ≡ 64 → (A : Question) → ((a : Atom) → a ∈ A → AtomFits inBook a)
+      → (b : Atom) → b ∈ on-question (subOf m) A → AtomFits desk b
+  mapped-fit m f g A each b i =
+      let r = Memᴰ·of-map (on-atom (subOf m)) A i in
+      subst (AtomFits desk) (r .2) (atom-on m f g (r .0) (each (r .0) (r .1)))
+
+  left-fit : (a : Atom) → a ∈ L′ → AtomFits desk a
+  left-fit = mapped-fit table fit long _ (all-fit left 1 (getD left 0 0) (li .atoms))
+
+  body-fit : (a : Atom) → a ∈ B′ → AtomFits desk a
+  body-fit = mapped-fit upper (upper-fits table upper fit long uh) (uh .size ∙ long) _ (all-fit book (p .body) (p .bodies) (ru .body))
+
+  whole-fit : (a : Atom) → a ∈ L′ ++ B′ → AtomFits desk a
+  whole-fit a m = go (List·Memᴰ·append-cases L′ m)
+    where
+      go : (a ∈ L′) ⊎ (a ∈ B′) → AtomFits desk a
+      go (inl i) = left-fit a i
+      go (inr i) = body-fit a i
+
+  left-count : length L′ ≡ getD left 0 0
+  left-count = length-map (atomsAt desk left 1 (getD left 0 0)) (on-atom (subOf table)) ∙ count-atoms desk left (getD left 0 0) 1
+
+  body-count : length B′ ≡ p .bodies
+  body-count = length-map (atomsAt desk book (p .body) (p .bodies)) (on-atom (subOf upper)) ∙ count-atoms desk book (p .bodies) (p .body)
+
+  whole-count : length (L′ ++ B′) ≡ getD left 0 0 + p .bodies
+  whole-count = length-append L′ B′ ∙ ap₂ (λ m n. m + n) left-count body-count
+
+  module _ (R₀ R₁ R₂ : List ℕ) (e₀ : R₀ ≡ heldIn desk 56 []) where
+    none-question : questionOf desk R₀ ≡ []
+    none-question = ap (questionOf desk) e₀ ∙ held-question desk 56 [] desk-apart (λ a m. absurd (List·Memᴰ·not-nil m))
+
+    module _ (e₁ : R₁ ≡ heldIn desk 56 (questionOf desk R₀ ++ L′)) where
+      left-grows : Grows desk 56 R₁ L′ (p .bodies)
+      left-grows =
+          record {
+            bytes = e₁ ∙ ap (λ q. heldIn desk 56 (q ++ L′)) none-question;
+            each = left-fit;
+            room = rw left-count (omega (arith, ru .few-body));
+          }
+
+      pub left-filling : Filling R₁ (p .bodies)
+      left-filling = grows-filling R₁ L′ (p .bodies) left-grows
+
+      left-question : questionOf desk R₁ ≡ L′
+      left-question = grows-question desk desk-apart 56 R₁ L′ (p .bodies) left-grows
+
+      module _ (e₂ : R₂ ≡ heldIn desk 56 (questionOf desk R₁ ++ B′)) where
+        whole-bytes : R₂ ≡ heldIn desk 56 (L′ ++ B′)
+        whole-bytes = e₂ ∙ ap (λ q. heldIn desk 56 (q ++ B′)) left-question
+
+        pub whole-sound : SoundRecord desk R₂
+        whole-sound =
+            subst (SoundRecord desk) (sym whole-bytes)
+            (held-sound desk 56 (L′ ++ B′) desk-apart
+            (record {
+              some-atom = rw whole-count (omega (arith, ru .some-body));
+              most = rw whole-count (omega (arith, ru .few-body));
+              each = whole-fit;
+            })
+            (rw whole-count (omega (arith, ru .few-body))))
+
+        pub whole-question : questionOf desk R₂ ≡ rewriting (tabled (classesOf table)) (questionOf desk left) (move 32 (ruleOf book p))
+        unfolding ruleIn subOf
+        whole-question =
+            ap (questionOf desk) whole-bytes
+            ∙ held-question desk 56 (L′ ++ B′) desk-apart whole-fit
+            ∙ ap₂ (λ x y. x ++ y) of-left of-body
+            ∙ sym (map-append (on-atom σ) (atomsAt desk left 1 (getD left 0 0)) (on-question (up 32) body))
+            ∙ ap (λ (q : Question). rewriting σ q (move 32 (ruleOf book p))) (sym (question-at desk left refl))
+          where
+            σ : Sub
+            σ = tabled (classesOf table)
+
+            body : Question
+            body = atomsAt desk book (p .body) (p .bodies)
+
+            at : (n : ℕ) → n < 64 → termOf (getD table n 0) ≡ σ n
+            at n h = sym (classes-at table n (var n) (omega arith))
+
+            of-left : L′ ≡ on-question σ (atomsAt desk left 1 (getD left 0 0))
+            of-left =
+                on-question-same (subOf table) σ _ (all-fit left 1 (getD left 0 0) (li .atoms)) (λ n h. lower n (omega arith))
+              where
+                lower : (n : ℕ) → n < 64 → subOf table n ≡ σ n
+                lower n h = at n h
+
+            of-body : B′ ≡ on-question σ (on-question (up 32) body)
+            of-body =
+                on-question-same (subOf upper) (comp σ (up 32)) body (all-fit book (p .body) (p .bodies) (ru .body)) higher
+                ∙ map-same _ _ body (λ a m. sym (on-atom-comp σ (up 32) a))
+                ∙ sym (map-map (on-atom σ) (on-atom (up 32)) body)
+              where
+                higher : (n : ℕ) → n < 32 → subOf upper n ≡ σ (32 + n)
+                higher n h = ap termOf (uh .moved n h) ∙ at (n + 32) (omega arith) ∙ ap σ (omega arith)
