@@ -11,17 +11,13 @@ use lib.Seq.{drop-at, take-at, length-take-le}
 use Rattle.covering.specs.Lists.{_∈_}
 use Rattle.covering.specs.Term.{Question}
 use Rattle.covering.specs.Search.{covers}
-use Rattle.covering.specs.Record.{desk, Fits}
-use Rattle.covering.specs.Record.{SoundRecord}
-use Rattle.covering.proofs.Lists.{keep-few, keep-append}
-use Rattle.covering.proofs.Lists.{keep-out}
+use Rattle.covering.specs.Record.{desk, Fits, SoundRecord}
+use Rattle.covering.proofs.Lists.{keep-few, keep-append, keep-out}
 use Rattle.admit.specs.declared.Extent.{Extent}
 use Rattle.admit.specs.declared.Moved.{Moved}
-use Rattle.exploration.specs.Run.{State}
-use Rattle.exploration.specs.Run.{remaining}
+use Rattle.exploration.specs.Run.{State, remaining}
 use Rattle.exploration.specs.Union.{membersBytes, membersFrom, memberEnd, firstAt, outputSize}
-use Rattle.admit.specs.WorkingArray.{Working, rest}
-use Rattle.admit.specs.WorkingArray.{HoldsState, stateIn, Remain}
+use Rattle.admit.specs.WorkingArray.{Working, rest, HoldsState, stateIn, Remain}
 use Rattle.exploration.specs.Standing.{Standing}
 use Rattle.exploration.proofs.UnionBytes.{total-is, total-most, members-append}
 use Rattle.admit.proofs.Stand.{held-stands, held-members}

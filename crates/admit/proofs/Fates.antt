@@ -15,12 +15,10 @@ use Rattle.covering.specs.Record.{desk, recordBytes, Fits}
 use Rattle.covering.proofs.Tests.{true→T, false→T}
 use Rattle.admit.specs.declared.Extent.{Extent}
 use Rattle.admit.specs.declared.Fate.the-variants.{Dropped, Appended, Refused}
-use Rattle.exploration.specs.Run.{State, limits, too-long, no-room, covered, appended, admitted}
-use Rattle.exploration.specs.Run.{remaining}
+use Rattle.exploration.specs.Run.{State, limits, too-long, no-room, covered, appended, admitted, remaining}
 use Rattle.exploration.specs.Steps.{New}
 use Rattle.exploration.specs.Union.{membersBytes, membersFrom, firstAt, outputSize}
-use Rattle.admit.specs.WorkingArray.{Working, beforeCovering, rest, FateIs}
-use Rattle.admit.specs.WorkingArray.{HoldsState, stateIn}
+use Rattle.admit.specs.WorkingArray.{Working, beforeCovering, rest, FateIs, HoldsState, stateIn}
 use Rattle.exploration.proofs.Admits.{was-covered, was-long, was-full, was-admitted, admit-is}
 use Rattle.exploration.proofs.Members.{members-count}
 use Rattle.admit.proofs.Array.{state-held, held-working, len-most}

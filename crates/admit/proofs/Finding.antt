@@ -12,15 +12,12 @@ use Rattle.covering.specs.Lists.{any}
 use Rattle.covering.specs.Term.{Atom, Question}
 use Rattle.covering.specs.Search.{covers}
 use Rattle.cover.specs.Candidates.{coversOn}
-use Rattle.covering.specs.Record.{desk, atomAt, atomsAt, questionOf}
-use Rattle.covering.specs.Record.{SoundRecord}
+use Rattle.covering.specs.Record.{desk, atomAt, atomsAt, questionOf, SoundRecord}
 use Rattle.cover.proofs.Ahead.{covers-any}
-use Rattle.covering.proofs.Places.{question-at}
-use Rattle.covering.proofs.Places.{atoms-none, atoms-more}
-use Rattle.reading.specs.Word.{byte}
+use Rattle.covering.proofs.Places.{question-at, atoms-none, atoms-more}
 use Rattle.exploration.specs.Run.{Test, covered}
-use Rattle.exploration.specs.Union.{membersFrom}
-use Rattle.exploration.proofs.Members.{next, members-more, members-none}
+use Rattle.exploration.specs.Union.{membersFrom, memberEnd}
+use Rattle.exploration.proofs.Members.{members-more, members-none}
 use Rattle.admit.specs.WorkingArray.{beforeCovering}
 
 -- one candidate more
@@ -66,12 +63,12 @@ module _ (cov : Test) (P : Question) (W : List ℕ) (at i n : ℕ) where
 
   first-next : i < n → beforeCovering cov P (membersFrom W at (n - i))
       ≡ cond (cov (questionOf desk (drop at W)) P) 0
-      (suc (beforeCovering cov P (membersFrom W (next W at) (n - (i + 1)))))
+      (suc (beforeCovering cov P (membersFrom W (memberEnd W at) (n - (i + 1)))))
   unfolding beforeCovering
   first-next h = ap (beforeCovering cov P) (members-more W at n i h)
 
   others : Bool → ℕ
-  others b = cond b 0 (suc (beforeCovering cov P (membersFrom W (next W at) (n - (i + 1)))))
+  others b = cond b 0 (suc (beforeCovering cov P (membersFrom W (memberEnd W at) (n - (i + 1)))))
 
   pub first-hit : i < n → cov (questionOf desk (drop at W)) P ≡ true
       → beforeCovering cov P (membersFrom W at (n - i)) ≡ 0
@@ -80,7 +77,7 @@ module _ (cov : Test) (P : Question) (W : List ℕ) (at i n : ℕ) where
 
   pub first-miss : i < n → cov (questionOf desk (drop at W)) P ≡ false
       → beforeCovering cov P (membersFrom W at (n - i))
-      ≡ suc (beforeCovering cov P (membersFrom W (at + (1 + byte W at * 5)) (n - (i + 1))))
+      ≡ suc (beforeCovering cov P (membersFrom W (memberEnd W at) (n - (i + 1))))
   unfolding others
   first-miss h e = first-next h ∙ ap others e
 

@@ -9,12 +9,11 @@ use lib.ListN.{length, getD, take, drop, length-append, length-drop}
 use lib.Seq.{drop-drop, drop-at, take-at, length-take-le}
 use Rattle.covering.specs.Term.{Question}
 use Rattle.covering.specs.Search.{covers}
-use Rattle.covering.specs.Record.{desk, questionOf, recordBytes}
-use Rattle.covering.specs.Record.{SoundRecord}
+use Rattle.covering.specs.Record.{desk, questionOf, recordBytes, SoundRecord, width}
 use Rattle.reading.specs.Word.{byte}
 use Rattle.exploration.specs.Run.{remaining}
-use Rattle.exploration.specs.Union.{membersBytes, membersFrom}
-use Rattle.exploration.proofs.Members.{next, count-from, member-width, member-bytes, members-more, members-none}
+use Rattle.exploration.specs.Union.{membersBytes, membersFrom, memberEnd}
+use Rattle.exploration.proofs.Members.{count-from, member-width, member-bytes, members-more, members-none}
 use Rattle.admit.specs.WorkingArray.{Remain}
 use Rattle.exploration.specs.Standing.{Standing}
 use Rattle.exploration.proofs.Standing.{Here, stands}
@@ -80,7 +79,7 @@ module _ (W : List ℕ) (from to n : ℕ) (P : Question) where
           sym (count-from X at) ∙ ap (λ (l : List ℕ). getD l 0 0) (m .same) ∙ count-from W at
 
       abbrev others : List Question
-      others = membersFrom W (next W at) (n - (i + 1))
+      others = membersFrom W (memberEnd W at) (n - (i + 1))
 
       abbrev this : Question
       this = questionOf desk (drop at W)
@@ -92,7 +91,7 @@ module _ (W : List ℕ) (from to n : ℕ) (P : Question) where
           ap (remaining covers P) (members-more W at n i h)
           ∙ ap (λ (c : Bool). cond (not c) (this ∷ remaining covers P others) (remaining covers P others)) e
 
-      place-next : next W at + length (membersBytes others) ≡ from + length (membersBytes (membersFrom W from n))
+      place-next : memberEnd W at + length (membersBytes others) ≡ from + length (membersBytes (membersFrom W from n))
       place-next =
           omega (
             arith,
@@ -214,29 +213,29 @@ module _ (W : List ℕ) (from to n : ℕ) (P : Question) where
           → covers P (questionOf desk (drop at W)) ≡ b
       judged b e = sym (e ∙ ap (λ (l : List ℕ). covers P (questionOf desk l)) (part-is X at ∙ m .same))
 
-      pub turn-gone : (b : Bool) → b ≡ covers P (questionOf desk (take (length X - at) (drop at X))) → b ≡ true
-          → Midway W from to n P X (at + (1 + getD X at 0 * 5)) end kept (i + 1)
-      turn-gone b e t =
-          subst (λ (k : ℕ). Midway W from to n P X (at + (1 + k * 5)) end kept (i + 1)) (sym same-count)
-          (midway-gone (judged b e ∙ t))
+      -- a turn of the loop, which goes on by the width v of the member at hand
+      module _ {v : ℕ} (q : v ≡ width desk (getD X at 0)) where
+        as-wide : v ≡ width desk (byte W at)
+        as-wide = q ∙ ap (width desk) same-count
 
-      pub turn-kept : (b : Bool) → b ≡ covers P (questionOf desk (take (length X - at) (drop at X))) → b ≡ false
-          → (Y : List ℕ)
-          → Y
-          ≡ take end X ++ (take (1 + getD X at 0 * 5) (drop at X) ++ drop (end + (1 + getD X at 0 * 5)) X)
-          → Midway W from to n P Y (at + (1 + getD X at 0 * 5)) (end + (1 + getD X at 0 * 5)) (kept + 1) (i + 1)
-      turn-kept b e t Y =
-          subst
-          (λ (k : ℕ). Y ≡ take end X ++ (take (1 + k * 5) (drop at X) ++ drop (end + (1 + k * 5)) X)
-          → Midway W from to n P Y (at + (1 + k * 5)) (end + (1 + k * 5)) (kept + 1) (i + 1))
-          (sym same-count) (midway-kept (judged b e ∙ t) Y)
+        pub turn-gone : (b : Bool) → b ≡ covers P (questionOf desk (take (length X - at) (drop at X))) → b ≡ true
+            → Midway W from to n P X (at + v) end kept (i + 1)
+        turn-gone b e t =
+            subst (λ (k : ℕ). Midway W from to n P X (at + k) end kept (i + 1)) (sym as-wide)
+            (midway-gone (judged b e ∙ t))
+
+        pub turn-kept : (b : Bool) → b ≡ covers P (questionOf desk (take (length X - at) (drop at X))) → b ≡ false
+            → (Y : List ℕ) → Y ≡ take end X ++ (take v (drop at X) ++ drop (end + v) X)
+            → Midway W from to n P Y (at + v) (end + v) (kept + 1) (i + 1)
+        turn-kept b e t Y =
+            subst
+            (λ (k : ℕ). Y ≡ take end X ++ (take k (drop at X) ++ drop (end + k) X)
+            → Midway W from to n P Y (at + k) (end + k) (kept + 1) (i + 1))
+            (sym as-wide) (midway-kept (judged b e ∙ t) Y)
 
       -- it stands within the array
       pub within : at + (1 + getD X at 0 * 5) ≤ length X
       within = omega (arith, same-count, here .within, m .size)
-
-      pub short : getD X at 0 ≤ 11
-      short = omega (arith, same-count, here .most)
 
       pub sound-part : SoundRecord desk (take (length X - at) (drop at X))
       sound-part = subst (SoundRecord desk) (sym (part-is X at ∙ m .same)) (here .sound)

@@ -13,8 +13,7 @@ use Rattle.admit.specs.declared.Extent.{Extent}
 use Rattle.admit.specs.declared.Moved.{Moved}
 use Rattle.admit.specs.declared.Fate.{Fate}
 use Rattle.admit.specs.declared.Fate.the-variants.{Dropped, Appended, Refused}
-use Rattle.exploration.specs.Run.{State, Test, limits, Why, refusalNumber, dropped, admitted, stopped, passed}
-use Rattle.exploration.specs.Run.{admit}
+use Rattle.exploration.specs.Run.{State, Test, limits, Why, refusalNumber, dropped, admitted, stopped, passed, admit}
 use Rattle.exploration.specs.Run.{remaining}
 use Rattle.exploration.specs.Union.{membersBytes, membersFrom, firstAt, total, outputSize}
 

@@ -1,6 +1,5 @@
 // Admitting one rewriting.
-ghost use Rattle.covering.specs.Record.{desk, questionOf};
-ghost use Rattle.covering.specs.Record.{SoundRecord};
+ghost use Rattle.covering.specs.Record.{desk, questionOf, SoundRecord};
 ghost use Rattle.admit.specs.WorkingArray.{Working, FateIs};
 use super::Extent;
 use super::Fate;

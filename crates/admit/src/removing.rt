@@ -1,10 +1,8 @@
 // Removing every member that a rewriting covers.
 ghost use mathlib.Core.Path.{_≡_};
 ghost use Prim.Native.Nat.{_≤_};
-ghost use Rattle.covering.specs.Record.{desk, questionOf};
-ghost use Rattle.covering.specs.Record.{SoundRecord};
-ghost use Rattle.admit.specs.WorkingArray.{Working, rest};
-ghost use Rattle.admit.specs.WorkingArray.{Remain, stateIn};
+ghost use Rattle.covering.specs.Record.{desk, questionOf, SoundRecord};
+ghost use Rattle.admit.specs.WorkingArray.{Working, rest, Remain, stateIn};
 ghost use Rattle.exploration.specs.Standing.{Standing};
 use super::Extent;
 use super::FIRST;
@@ -25,7 +23,7 @@ fn keep_uncovered(work: &mut [u8], from: usize, to: usize, n: usize, rewriting: 
     let mut kept = 0;
     let mut i = 0;
     while i < n {
-        let width = 1 + (work[at] as usize) * 5;
+        let width = cover::width(work[at]);
         if !cover::covers_sound(rewriting, &work[at..]) {
             move_down(work, at, end, width);
             end += width;

@@ -2,8 +2,7 @@
 ghost use mathlib.Core.Path.{_≡_};
 ghost use Prim.Native.Nat.{_≤_};
 ghost use Rattle.covering.specs.Search.{covers};
-ghost use Rattle.covering.specs.Record.{desk, questionOf};
-ghost use Rattle.covering.specs.Record.{SoundRecord};
+ghost use Rattle.covering.specs.Record.{desk, questionOf, SoundRecord};
 ghost use Rattle.exploration.specs.Union.{membersFrom, firstAt};
 ghost use Rattle.admit.specs.WorkingArray.{beforeCovering};
 ghost use Rattle.exploration.specs.Standing.{Standing};
@@ -25,7 +24,7 @@ pub fn member_covering(work: &[u8], count: usize, rewriting: &[u8]) -> usize
         if count <= i {
             break 'members count;
         }
-        let width = 1 + (work[at] as usize) * 5;
+        let width = cover::width(work[at]);
         let member = &work[at..];
         let mut k = 0;
         'atoms: loop {

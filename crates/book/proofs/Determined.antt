@@ -7,10 +7,9 @@ use lib.ListN.{getD}
 use lib.Seq.{ext-getD}
 use Rattle.reading.specs.declared.Header.{Header}
 use Rattle.reading.specs.declared.Refusal.{Refusal}
-use Rattle.book.specs.declared.Parts.{Parts}
 use Rattle.reading.specs.Header.{rules, HeaderRead}
 use Rattle.reading.specs.Verdict.{IsVerdict, verdict}
-use Rattle.book.specs.Parts.{StartsAt, partsAt}
+use Rattle.book.specs.Parts.{StartsAt}
 use Rattle.covering.proofs.Tests.{le-or-lt}
 use Rattle.reading.proofs.Exact.{verdict-only}
 use Rattle.book.proofs.check.Reads as check-reads
@@ -29,9 +28,6 @@ module _ (B : List ℕ) where
 
   pub read-determined : {h g : Header} → HeaderRead B h → HeaderRead B g → h ≡ g
   read-determined r t = r .is ∙ sym (t .is)
-
-  pub rule-determined : (s : ℕ) {p q : Parts} → p ≡ partsAt B s → q ≡ partsAt B s → p ≡ q
-  rule-determined s e d = e ∙ sym d
 
   pub starts-determined : {a b : List ℕ} → StartsAt B a → StartsAt B b → a ≡ b
   starts-determined {a} {b} s t =

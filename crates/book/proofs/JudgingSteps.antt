@@ -18,8 +18,7 @@ use Rattle.reading.specs.Header.{placesRange, atomSize, atomPlaces}
 use Rattle.reading.specs.Book.{bodyCount, headCount, bodyAt, ruleEnd, rulesStart, placesOf}
 use Rattle.reading.specs.Refusals.{placeAllowed}
 use Rattle.reading.specs.Verdict.{wrongPlaces, ruleRight, wrongRule, wrongPlace, wrongInAtom, wrongInAtoms}
-use Rattle.reading.specs.Verdict.{wrongInRules, wrongByte, refuse, told}
-use Rattle.reading.specs.Verdict.{inTable, offsetsRight, contents, verdict}
+use Rattle.reading.specs.Verdict.{wrongInRules, wrongByte, refuse, told, inTable, offsetsRight, contents, verdict}
 use Rattle.reading.proofs.Conditions.{rule-right}
 
 pub same-number : {r t : Refusal} → r ≡ t → r .number ≡ t .number

@@ -14,8 +14,7 @@ use Rattle.cover.specs.declared.Placed.{Placed}
 use Rattle.covering.specs.Lists.{isSome}
 use Rattle.covering.specs.Search.{Part, nowhere, also, placeTerm, placeTerms, placeAtom}
 use Rattle.covering.specs.Record.{Layout, termOf, argsAt, atomAt}
-use Rattle.cover.specs.HeldMap.{partOf}
-use Rattle.cover.specs.HeldMap.{placedMap}
+use Rattle.cover.specs.HeldMap.{partOf, placedMap}
 use Rattle.covering.proofs.Tests.{either}
 use Rattle.covering.proofs.Bytes.{term-same, term-var, term-con, args-more, args-end}
 

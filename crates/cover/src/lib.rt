@@ -8,6 +8,7 @@ mod search;
 
 pub use desk::covers;
 pub use desk::keep;
+pub use record::width;
 pub use search::covers_on;
 pub use search::covers_sound;
 

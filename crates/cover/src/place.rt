@@ -6,8 +6,7 @@ ghost use lib.Dec.{T};
 ghost use lib.ListN.{length};
 ghost use Rattle.covering.specs.Search.{placeTerm, placeTerms, placeAtom};
 ghost use Rattle.covering.specs.Record.{desk, termOf, argsAt, atomAt, usedFirst, isAtom};
-ghost use Rattle.cover.specs.HeldMap.{partOf};
-ghost use Rattle.cover.specs.HeldMap.{placedMap};
+ghost use Rattle.cover.specs.HeldMap.{partOf, placedMap};
 
 // Sends the term t to the term u: a constant to itself, a variable where it went before or, the first time, to u.
 fn place_term(map: [u8; 64], t: u8, u: u8) -> Placed

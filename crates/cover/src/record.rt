@@ -2,7 +2,7 @@
 ghost use mathlib.Core.Path.{_≡_};
 ghost use Prim.Native.Nat.{_+_, _*_, _-_, _≤_};
 ghost use lib.ListN.{length};
-ghost use Rattle.covering.specs.Record.{desk, isTerm, unused, usedFirst, isAtom, areAtoms, isRecord};
+ghost use Rattle.covering.specs.Record.{width as widthOf, desk, isTerm, unused, usedFirst, isAtom, areAtoms, isRecord};
 
 // Whether a byte is a term: a variable, 0 to 63, or a constant, 128 to 254.
 fn is_term(b: u8) -> bool
@@ -78,6 +78,13 @@ fn are_atoms(s: &[u8], i: usize, n: usize) -> bool
     true
 }
 
+// The bytes of a record of so many atoms: "one count byte and its atoms, five bytes each".
+pub fn width(count: u8) -> usize
+    ensures { λ r. ⌜ r ≡ widthOf desk count ⌝ }
+{
+    1 + (count as usize) * 5
+}
+
 // Whether s is a member record: 1 to 11 atoms, and a length that fits exactly.
 pub fn is_record(s: &[u8]) -> bool
     ensures { λ r. ⌜ r ≡ isRecord desk (now (s .entry)) ⌝ }
@@ -92,7 +99,7 @@ pub fn is_record(s: &[u8]) -> bool
     if 11 < n {
         return false;
     }
-    if s.len() != 1 + n * 5 {
+    if s.len() != width(s[0]) {
         return false;
     }
     are_atoms(s, 1, n)

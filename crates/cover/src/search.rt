@@ -9,10 +9,8 @@ ghost use lib.ListN.{length, getD};
 ghost use Rattle.covering.specs.Lists.{all};
 ghost use Rattle.covering.specs.Search.{findMap, covers};
 ghost use Rattle.cover.specs.Candidates.{tried, coversOn, hasCandidate};
-ghost use Rattle.covering.specs.Record.{desk, isAtom, atomAt, atomsAt, questionOf};
-ghost use Rattle.covering.specs.Record.{SoundRecord};
-ghost use Rattle.cover.specs.HeldMap.{partOf};
-ghost use Rattle.cover.specs.HeldMap.{placedMap};
+ghost use Rattle.covering.specs.Record.{desk, isAtom, atomAt, atomsAt, questionOf, SoundRecord};
+ghost use Rattle.cover.specs.HeldMap.{partOf, placedMap};
 ghost use Rattle.covering.specs.Buffer.{AtomsIn};
 
 // Whether the atom of first at i can be placed on one of the w atoms of second, as the map is now.

@@ -9,8 +9,7 @@ use native.Mathlib.Omega.{arith}
 use Rattle.covering.specs.Term.{Question}
 use Rattle.covering.specs.Search.{covers}
 use Rattle.covering.specs.Record.{Layout, questionOf, isRecord, recordOf}
-use Rattle.covering.specs.Desk.{coversAnswer, the-first, the-second, neither, which}
-use Rattle.covering.specs.Desk.{coversNumber}
+use Rattle.covering.specs.Desk.{coversAnswer, the-first, the-second, neither, which, coversNumber}
 use Rattle.covering.proofs.Tests.{either}
 
 module _ (L : Layout) (B : List ℕ) where

@@ -9,12 +9,9 @@ use lib.ListN.{length, getD, take, drop, length-append}
 use lib.Seq.{drop-cons}
 use Rattle.covering.specs.Lists.{gather}
 use Rattle.covering.specs.Term.{Question}
-use Rattle.covering.specs.Record.{Layout, size, areAtoms, questionOf, atomBytes, recordBytes}
-use Rattle.covering.specs.Record.{Fits}
-use Rattle.covering.specs.Record.{SoundRecord}
+use Rattle.covering.specs.Record.{Layout, size, areAtoms, questionOf, atomBytes, recordBytes, Fits, SoundRecord}
 use Rattle.covering.proofs.Lengths.{question-count, record-is, record-long}
-use Rattle.covering.proofs.RoundTrip.{atoms-read, atoms-back}
-use Rattle.covering.proofs.RoundTrip.{TellsApart}
+use Rattle.covering.proofs.RoundTrip.{atoms-read, atoms-back, TellsApart}
 
 -- written
 module _ (L : Layout) (ap-L : TellsApart L) (A : Question) (R : List ℕ) (fits : Fits L A) where

@@ -10,8 +10,7 @@ use lib.Dec.{T, eqb, ltb, leb, ltb→lt, leb→le, eqb→eq}
 use lib.ListN.{length, getD, List·getD-eq-default}
 use Rattle.covering.specs.Term.{var, con, eqTerm}
 use Rattle.covering.specs.Record.{Layout, size, termOf, argsAt, isTerm, unused, usedFirst, isAtom, areAtoms}
-use Rattle.covering.specs.Record.{isRecord}
-use Rattle.covering.specs.Record.{SoundRecord}
+use Rattle.covering.specs.Record.{isRecord, SoundRecord}
 use Rattle.covering.proofs.Tests.{either, fst-of, snd-of, or-cases, true→T}
 
 pub suc-sub-one : (n : ℕ) → suc n - 1 ≡ n
@@ -113,6 +112,13 @@ term-constant L b t le = go (or-cases (ltb b (L .variables)) (leb 128 b && ltb b
     go (inr h) = leb→le 128 b (fst-of (leb 128 b) (ltb b (128 + L .constants)) h)
 
 -- a sound atom's places are sound
+pub atom-first : (L : Layout) (B : List ℕ) (i : ℕ) → T (isAtom L B i) → T (isTerm L (getD B (i + 1) 0))
+unfolding isAtom
+atom-first L B i t =
+    let places = usedFirst L B (i + 1) (L .places) in
+    let first = isTerm L (getD B (i + 1) 0) in
+    fst-of first places (snd-of (ltb (getD B i 0) (L .relations)) (first && places) t)
+
 pub atom-used : (L : Layout) (B : List ℕ) (i : ℕ) → T (isAtom L B i) → T (usedFirst L B (i + 1) (L .places))
 unfolding isAtom
 atom-used L B i t =

@@ -12,9 +12,8 @@ use Rattle.covering.specs.Term.{Term, var, con, Atom, Question, Sub, on-
 use Rattle.covering.specs.Covers.{Sends, Covers}
 use Rattle.covering.specs.Search.{Part, nowhere, also, agree, placeTerm, placeTerms, placeAtom, findMap}
 use Rattle.covering.specs.Search.{firstMap, covers}
-use Rattle.covering.proofs.Lists.{firstOf-out}
+use Rattle.covering.proofs.Lists.{firstOf-out, firstOf-in, some-of, some-is}
 use Rattle.covering.proofs.Tests.{decide, cond-yes, cond-no, none≢some}
-use Rattle.covering.proofs.Lists.{firstOf-in, some-of, some-is}
 use Rattle.covering.proofs.Terms.{eqTerm→eq, eq→eqTerm, atom-path}
 
 -- s does what the map so far says

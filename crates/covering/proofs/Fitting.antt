@@ -3,27 +3,25 @@
 use mathlib.Core.Path.{_≡_, refl, sym, subst}
 use mathlib.Core.Bool.{Bool, true, false, cond, not, _&&_}
 use mathlib.Core.Logic.{_⊎_, inl, inr}
-use mathlib.Core.List.{List, [], _∷_, List·Memᴰ·head, List·Memᴰ·tail, List·Memᴰ·not-nil}
-use mathlib.Core.List.{List·Memᴰ·cases-cons, Memᴰ·of-map}
+use mathlib.Core.List.{List, [], _∷_, List·Memᴰ·not-nil, List·Memᴰ·cases-cons, Memᴰ·of-map}
 use Prim.Native.Nat.{ℕ, zero, suc, _+_, _*_, _≤_, _<_}
 use native.Mathlib.Nat.{mul-le-mul-right}
 use native.Mathlib.Omega.{arith}
 use borrow.Author.Tests.{ne-eqb}
 use lib.Dec.{T, eqb, ltb, leb, ltb→lt, leb→le, eqb-refl}
-use lib.ListN.{length, getD, length-append, length-map}
+use lib.ListN.{length, getD, length-map}
 use Rattle.covering.specs.Lists.{_∈_}
-use Rattle.covering.specs.Term.{Term, var, con, Atom, Question, on-term, on-atom, terms, eqAtom}
+use Rattle.covering.specs.Term.{Term, var, con, Atom, Question, on-term, on-atom, terms}
 use Rattle.covering.specs.Form.{dedup, firsts, index, numbering, renumber, form}
 use Rattle.covering.specs.Record.{Layout, size, termOf, argsAt, atomAt, atomsAt, questionOf, isTerm, unused}
-use Rattle.covering.specs.Record.{usedFirst, isAtom, areAtoms, TermFits, AtomFits, Fits}
-use Rattle.covering.specs.Record.{SoundRecord}
+use Rattle.covering.specs.Record.{usedFirst, isAtom, areAtoms, TermFits, AtomFits, Fits, SoundRecord}
 use Rattle.covering.proofs.Tests.{decide, clash, cond-yes, cond-no, fst-of, snd-of, or-cases, true→T, false→no}
 use Rattle.covering.proofs.Terms.{terms-in}
 use Rattle.covering.proofs.Form.{dedup-out, firsts-in}
 use Rattle.covering.proofs.Bytes.{term-var, term-con, atom-used}
 use Rattle.covering.proofs.Lengths.{question-count}
 use Rattle.covering.proofs.RoundTrip.{TellsApart}
-use Rattle.covering.proofs.Lists.{keep-few}
+use Rattle.covering.proofs.FormSizes.{firsts-few, dedup-some, terms-few, dedup-few}
 
 module _ (L : Layout) (ap-L : TellsApart L) where
   term-fits : (b : ℕ) → T (isTerm L b) → TermFits L (termOf b)
@@ -117,14 +115,6 @@ module _ (L : Layout) (ap-L : TellsApart L) where
           }
 
 -- equal atoms dropped
-pub dedup-few : (A : Question) → length (dedup A) ≤ length A
-dedup-few [] = omega arith
-dedup-few (a ∷ A) = let h = keep-few (λ b. not (eqAtom a b)) (dedup A) in omega (arith, dedup-few A)
-
-dedup-some : (A : Question) → 1 ≤ length A → 1 ≤ length (dedup A)
-dedup-some [] h = h
-dedup-some (a ∷ A) h = omega arith
-
 pub dedup-fits : (L : Layout) (A : Question) → Fits L A → Fits L (dedup A)
 dedup-fits L A f =
     record {
@@ -144,18 +134,6 @@ index-below (m ∷ ms) n h = go (decide (eqb m n)) (List·Memᴰ·cases-cons h) 
         absurd (clash (eqb m n) (subst (λ (x : ℕ). T (eqb m x)) (sym e) (eqb-refl m)) t)
     go (inr t) (inr u) below =
         rw (cond-no (eqb m n) 0 (suc (index ms n)) t) (let h = below u in omega arith)
-
-firsts-few : (ts : List Term) → length (firsts ts) ≤ length ts
-firsts-few [] = omega arith
-firsts-few (var n ∷ ts) =
-    let h = keep-few (λ m. not (eqb n m)) (firsts ts) in omega (arith, firsts-few ts)
-firsts-few (con c ∷ ts) = omega (arith, firsts-few ts)
-
-terms-few : (w : ℕ) (A : Question) → ((a : Atom) → a ∈ A → length (a .args) ≤ w) → length (terms A) ≤ length A * w
-terms-few w [] h = omega arith
-terms-few w (a ∷ A) h =
-    rw (length-append (a .args) (terms A))
-    (omega (arith, h a (List·Memᴰ·head refl), terms-few w A (λ b m. h b (List·Memᴰ·tail m))))
 
 module _ (L : Layout) (A : Question) (f : Fits L A) where
   pub variables-few : length (firsts (terms A)) ≤ length A * L .places

@@ -12,9 +12,9 @@ use Rattle.covering.specs.Lists.{_∈_, Distinct, keep, numbers}
 use Rattle.covering.specs.Term.{Term, var, con, Atom, Question, Sub, on-term, on-atom, comp, terms, eqAtom}
 use Rattle.covering.specs.Covers.{Equivalent}
 use Rattle.covering.specs.Form.{dedup, firsts, index, numbering, renumber, form}
-use Rattle.covering.proofs.Lists.{keep-in, keep-out, keep-map, keep-same}
+use Rattle.covering.proofs.Lists.{keep-in, keep-out, keep-map, keep-same, keep-distinct, keep-all, map-same}
+use Rattle.covering.proofs.Lists.{map-distinct}
 use Rattle.covering.proofs.Tests.{decide, clash, cond-yes, cond-no, not-of, same-bool}
-use Rattle.covering.proofs.Lists.{keep-distinct, keep-all, map-same, map-distinct}
 use Rattle.covering.proofs.Terms.{eqAtom→eq, eqAtom-refl, on-atom-comp, on-atom-fixed, terms-in, terms-on}
 use Rattle.covering.proofs.Terms.{var-inj, var≢con}
 use Rattle.covering.proofs.Preorder.{covers-part, equivalent-turn, equivalent-trans}

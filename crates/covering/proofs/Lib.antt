@@ -12,6 +12,7 @@ pub mod First
 -- the form of a question
 pub mod Form
 pub mod SameForm
+pub mod FormSizes
 -- a record's bytes: place by place, atom by atom, copied, as long as they are, there and back
 pub mod Bytes
 pub mod Places

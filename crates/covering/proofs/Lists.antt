@@ -3,13 +3,13 @@ use mathlib.Core.Path.{_≡_, refl, sym, _∙_, ap, ap₂, subst}
 use mathlib.Core.Bool.{Bool, true, false, cond, _&&_, _||_}
 use mathlib.Core.Logic.{_⊎_, inl, inr}
 use mathlib.Core.List.{List, [], _∷_, _++_, map, List·Memᴰ·head, List·Memᴰ·tail, List·Memᴰ·not-nil, Memᴰ·of-map}
-use mathlib.Core.List.{Memᴰ·cast, append-assoc}
+use mathlib.Core.List.{Memᴰ·cast, append-assoc, List·Memᴰ·cases-cons}
 use mathlib.Core.Option.{Option, none, some}
-use Prim.Native.Nat.{suc, _≤_}
+use Prim.Native.Nat.{ℕ, zero, suc, _+_, _≤_, _<_}
 use native.Mathlib.Omega.{arith}
 use lib.Dec.{T}
 use lib.ListN.{length}
-use Rattle.covering.specs.Lists.{_∈_, Distinct, any, all, keep, isSome, orElse, firstOf, gather}
+use Rattle.covering.specs.Lists.{_∈_, Distinct, any, all, keep, isSome, orElse, firstOf, gather, numbers}
 use Rattle.covering.proofs.Tests.{fst-of, snd-of, both, or-left, or-right, or-cases, none≢some, cond-yes}
 
 -- what has a member is not empty, and what is not empty has one
@@ -229,3 +229,16 @@ keep-few p (x ∷ l) = go (p x) (keep-few p l)
     go : (b : Bool) → length (keep p l) ≤ length l → length (cond b (x ∷ keep p l) (keep p l)) ≤ suc (length l)
     go true h = omega arith
     go false h = omega arith
+
+-- n numbers from i on
+pub numbers-length : (i n : ℕ) → length (numbers i n) ≡ n
+numbers-length i zero = refl
+numbers-length i (suc n) = ap suc (numbers-length (suc i) n)
+
+pub numbers-below : (i n x : ℕ) → x ∈ numbers i n → x < i + n
+numbers-below i zero x m = absurd (List·Memᴰ·not-nil m)
+numbers-below i (suc n) x m = go (List·Memᴰ·cases-cons m) (numbers-below (suc i) n x)
+  where
+    go : (x ≡ i) ⊎ (x ∈ numbers (suc i) n) → (x ∈ numbers (suc i) n → x < suc i + n) → x < i + suc n
+    go (inl e) below = omega arith
+    go (inr k) below = let h : x < suc i + n = below k in omega arith

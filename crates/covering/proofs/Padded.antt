@@ -10,14 +10,11 @@ use lib.ListN.{length, getD, take, drop, set, replicate, length-append, length-r
 use lib.Seq.{paste, take-at, drop-append-add}
 use Rattle.covering.specs.Lists.{_∈_, gather}
 use Rattle.covering.specs.Term.{Atom, Question}
-use Rattle.covering.specs.Record.{Layout, size, atomsAt, areAtoms, questionOf, atomBytes, recordBytes}
-use Rattle.covering.specs.Record.{AtomFits, Fits}
-use Rattle.covering.specs.Record.{SoundRecord, desk}
-use Rattle.covering.specs.Buffer.{AtomsIn, heldIn}
-use Rattle.covering.specs.Buffer.{RoomLeft}
+use Rattle.covering.specs.Record.{Layout, size, atomsAt, areAtoms, questionOf, atomBytes, recordBytes, AtomFits}
+use Rattle.covering.specs.Record.{Fits, SoundRecord, desk}
+use Rattle.covering.specs.Buffer.{AtomsIn, heldIn, RoomLeft}
 use Rattle.covering.proofs.Lengths.{count-atoms, atoms-long, record-is, record-long}
-use Rattle.covering.proofs.RoundTrip.{atoms-read, atoms-back}
-use Rattle.covering.proofs.RoundTrip.{TellsApart, desk-apart}
+use Rattle.covering.proofs.RoundTrip.{atoms-read, atoms-back, TellsApart, desk-apart}
 use Rattle.covering.proofs.Lists.{gather-append}
 use Rattle.covering.proofs.Slices.{rest-free}
 use Rattle.covering.proofs.Begun.{begun-record, begun-long}
@@ -35,11 +32,6 @@ module _ (L : Layout) (n : ℕ) (A : Question) where
       length-append (recordBytes L A) _
       ∙ ap (λ k. length (recordBytes L A) + k) (length-replicate (n - length (recordBytes L A)) 255)
       ∙ omega (arith, record-long L A)
-
-  -- the record alone
-  pub held-record : take (1 + length A * size L) (heldIn L n A) ≡ recordBytes L A
-  unfolding heldIn
-  held-record = take-at (recordBytes L A) _ (1 + length A * size L) (record-long L A)
 
   module _ (ap-L : TellsApart L) (each : (a : Atom) → a ∈ A → AtomFits L a) where
     read : (atomsAt L (heldIn L n A) 1 (length A) ≡ A) × T (areAtoms L (heldIn L n A) 1 (length A))

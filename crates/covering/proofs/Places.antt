@@ -3,7 +3,7 @@
 use mathlib.Core.Path.{_≡_, refl, sym, _∙_, ap, subst}
 use mathlib.Core.Bool.{Bool, not, true, false, cond, _&&_}
 use mathlib.Core.Logic.{_⊎_, inl, inr}
-use mathlib.Core.List.{List, [], _∷_, List·Memᴰ·not-nil, List·Memᴰ·cases-cons}
+use mathlib.Core.List.{List, [], _∷_, List·Memᴰ·not-nil, List·Memᴰ·cases-cons, _++_, map}
 use Prim.Native.Nat.{ℕ, zero, suc, _+_, _*_, _≤_, _<_, _-_}
 use native.Mathlib.Nat.{mul-suc, mul-zero}
 use native.Mathlib.Omega.{arith}
@@ -11,7 +11,7 @@ use lib.Dec.{T, eqb, eqb→eq, ltb, leb, lt→ltb, le→leb}
 use borrow.Author.Tests.{eq-eqb, ne-eqb}
 use lib.ListN.{length, getD}
 use Rattle.covering.specs.Lists.{_∈_}
-use Rattle.covering.specs.Term.{Term, Atom}
+use Rattle.covering.specs.Term.{Term, Atom, Sub, terms, on-question, on-term, Question}
 use Rattle.covering.specs.Record.{Layout, size, termOf, argsAt, atomAt, atomsAt, questionOf, isTerm, unused}
 use Rattle.covering.specs.Record.{usedFirst, isAtom, areAtoms}
 use Rattle.covering.proofs.Tests.{decide, clash, both, snd-of, or-left, or-right, cond-yes, fst-of}
@@ -210,6 +210,10 @@ module _ (L : Layout) (B : List ℕ) (i : ℕ) where
   unfolding atomsAt
   atoms-none n e = rw (e, atomsAt)
 
+  pub atoms-step : (n : ℕ) → atomsAt L B i (suc n) ≡ atomAt L B i ∷ atomsAt L B (i + size L) n
+  unfolding atomsAt
+  atoms-step n = refl
+
   pub atoms-more : (n : ℕ) → 0 < n → atomsAt L B i n ≡ atomAt L B i ∷ atomsAt L B (i + size L) (n - 1)
   unfolding atomsAt
   atoms-more (suc n) h = rw suc-sub-one
@@ -220,3 +224,16 @@ module _ (L : Layout) (B : List ℕ) (i : ℕ) where
     fst-of (isAtom L B i) (areAtoms L B (i + size L) n) t,
     rw suc-sub-one (snd-of (isAtom L B i) (areAtoms L B (i + size L) n) t),
   )
+
+-- the terms of n atoms, those of the first of them taken; and the same once s sent them on
+module _ (L : Layout) (B : List ℕ) (i n : ℕ) (h : 0 < n) where
+  pub terms-first : terms (atomsAt L B i n) ≡ argsAt B (i + 1) (L .places) ++ terms (atomsAt L B (i + size L) (n - 1))
+  terms-first =
+      ap terms (atoms-more L B i n h) ∙ ap (λ (ts : List Term). ts ++ terms (atomsAt L B (i + size L) (n - 1))) (args-at L B i)
+
+  pub terms-sent : (s : Sub) → terms (on-question s (atomsAt L B i n))
+      ≡ map (on-term s) (argsAt B (i + 1) (L .places)) ++ terms (on-question s (atomsAt L B (i + size L) (n - 1)))
+  terms-sent s =
+      ap (λ (A : Question). terms (on-question s A)) (atoms-more L B i n h)
+      ∙ ap (λ (ts : List Term). map (on-term s) ts ++ terms (on-question s (atomsAt L B (i + size L) (n - 1))))
+      (args-at L B i)

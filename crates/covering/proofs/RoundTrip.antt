@@ -17,9 +17,8 @@ use lib.Seq.{drop-cons, take-add, take-all, drop-drop}
 use Rattle.covering.specs.Lists.{_∈_, gather}
 use Rattle.covering.specs.Term.{Term, var, con, Atom, Question}
 use Rattle.covering.specs.Record.{Layout, desk, size, termOf, argsAt, atomAt, atomsAt, questionOf, isTerm}
-use Rattle.covering.specs.Record.{unused, usedFirst, isAtom, areAtoms, isRecord, recordOf}
-use Rattle.covering.specs.Record.{byteOf, placesBytes, atomBytes, recordBytes, TermFits, AtomFits, Fits}
-use Rattle.covering.specs.Record.{SoundRecord}
+use Rattle.covering.specs.Record.{unused, usedFirst, isAtom, areAtoms, isRecord, recordOf, byteOf, placesBytes}
+use Rattle.covering.specs.Record.{atomBytes, recordBytes, TermFits, AtomFits, Fits, SoundRecord}
 use Rattle.covering.proofs.Tests.{either, both, fst-of, snd-of, or-left, or-right, true→T, T→true, none≢some}
 use Rattle.covering.proofs.Terms.{atom-path}
 use Rattle.covering.proofs.Bytes.{term-var, term-con, atom-used, record-fits, record-sound, record-length}

@@ -6,8 +6,7 @@ use Prim.Native.Nat.{ℕ, _+_, _*_, _-_, _≤_, _<_}
 use native.Mathlib.Omega.{arith}
 use lib.Dec.{T}
 use lib.ListN.{length, getD}
-use Rattle.covering.specs.Record.{Layout, size, isAtom, areAtoms}
-use Rattle.covering.specs.Record.{SoundRecord}
+use Rattle.covering.specs.Record.{Layout, size, isAtom, areAtoms, SoundRecord}
 use Rattle.covering.specs.Buffer.{AtomsIn}
 use Rattle.covering.proofs.RoundTrip.{TellsApart}
 use Rattle.covering.proofs.Places.{sound-more}

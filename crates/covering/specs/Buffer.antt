@@ -5,7 +5,7 @@ use Prim.Native.Nat.{ℕ, _+_, _*_, _-_, _≤_}
 use lib.Dec.{T}
 use lib.ListN.{length, getD, replicate}
 use Rattle.covering.specs.Term.{Question}
-use Rattle.covering.specs.Record.{Layout, size, isAtom, areAtoms, questionOf, recordBytes}
+use Rattle.covering.specs.Record.{Layout, size, isAtom, areAtoms, questionOf, recordBytes, width}
 
 -- n sound atoms from i on, within the bytes
 pub record AtomsIn (L : Layout) (B : List ℕ) (i n : ℕ) : Type 0 where
@@ -25,4 +25,4 @@ pub record AtomIn (L : Layout) (B : List ℕ) (i : ℕ) : Type 0 where
 pub record RoomLeft (L : Layout) (n : ℕ) (B : List ℕ) : Type 0 where
   pub holds : B ≡ heldIn L n (questionOf L B)
   pub atoms : T (areAtoms L B 1 (getD B 0 0))
-  pub room : 1 + (getD B 0 0 + 1) * size L ≤ n
+  pub room : width L (getD B 0 0 + 1) ≤ n

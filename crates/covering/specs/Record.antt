@@ -26,6 +26,10 @@ desk = record { atoms = 11; relations = 64; places = 4; variables = 64; constant
 abbrev pub size : Layout → ℕ
 size L = 1 + L .places
 
+-- a record's bytes: "one count byte and its atoms, five bytes each"
+abbrev pub width : Layout → ℕ → ℕ
+width L n = 1 + n * size L
+
 -- from bytes: "0 to 31 for a variable or 128 to 127 + C for a constant"
 unfoldable pub termOf : ℕ → Term
 termOf b = cond (ltb b 128) (var b) (con (b - 128))
@@ -73,7 +77,7 @@ areAtoms L B i (suc n) = isAtom L B i && areAtoms L B (i + size L) n
 unfoldable pub isRecord : Layout → List ℕ → Bool
 isRecord L B =
     let n = getD B 0 0 in
-    (leb 1 n && leb n (L .atoms)) && (eqb (length B) (1 + n * size L) && areAtoms L B 1 n)
+    (leb 1 n && leb n (L .atoms)) && (eqb (length B) (width L n) && areAtoms L B 1 n)
 
 -- the question of a record, none if it is malformed
 unfoldable pub recordOf : Layout → List ℕ → Option Question
@@ -83,7 +87,7 @@ recordOf L B = cond (isRecord L B) (some (questionOf L B)) none
 pub record SoundRecord (L : Layout) (B : List ℕ) : Type 0 where
   pub some-atom : 1 ≤ getD B 0 0
   pub most : getD B 0 0 ≤ L .atoms
-  pub fits : 1 + getD B 0 0 * size L ≤ length B
+  pub fits : width L (getD B 0 0) ≤ length B
   pub atoms : T (areAtoms L B 1 (getD B 0 0))
 
 -- to bytes

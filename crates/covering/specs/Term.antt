@@ -2,8 +2,9 @@
 -- places or of 64 variables: numbers are natural numbers, and lists are as long as they are.
 use mathlib.Core.Bool.{Bool, true, false, _&&_}
 use mathlib.Core.List.{List, [], _∷_, _++_, map}
-use Prim.Native.Nat.{ℕ}
+use Prim.Native.Nat.{ℕ, _<_}
 use lib.Dec.{eqb}
+use Rattle.covering.specs.Lists.{_∈_}
 
 -- "A term is a variable or a constant."
 pub data Term : Type 0 where
@@ -23,6 +24,10 @@ Question = List Atom
 abbrev pub terms : Question → List Term
 terms [] = []
 terms (a ∷ A) = a .args ++ terms A
+
+-- all variables of a question are below k
+abbrev pub Below : ℕ → Question → Type 0
+Below k A = (n : ℕ) → var n ∈ terms A → n < k
 
 -- "some map of A's variables to B's terms, constants fixed"
 abbrev pub Sub : Type 0

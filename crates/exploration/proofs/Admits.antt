@@ -11,8 +11,7 @@ use lib.ListN.{length}
 use Rattle.covering.specs.Term.{Question}
 use Rattle.covering.proofs.Tests.{decide, clash, cond-yes, cond-no}
 use Rattle.exploration.specs.Run.{Test, Limits, State, too-long, no-room, Admission, dropped, admitted, stopped}
-use Rattle.exploration.specs.Run.{passed, failed, onAdmission, covered, appended, admit, through}
-use Rattle.exploration.specs.Run.{remaining}
+use Rattle.exploration.specs.Run.{passed, failed, onAdmission, covered, appended, admit, through, remaining}
 use Rattle.exploration.specs.Steps.{New, Admitted}
 
 module _ (cov : Test) (lim : Limits) where

@@ -16,13 +16,10 @@ use Rattle.covering.specs.Term.{Question}
 use Rattle.covering.specs.Form.{form}
 use Rattle.covering.proofs.Lists.{any-in, any-out, keep-out}
 use Rattle.covering.proofs.Tests.{decide, clash}
-use Rattle.exploration.specs.Run.{Test, Limits, State, oldest, takenUp, covered}
-use Rattle.exploration.specs.Run.{remaining}
-use Rattle.exploration.specs.Run.{appended}
+use Rattle.exploration.specs.Run.{Test, Limits, State, oldest, takenUp, covered, remaining, appended}
 use Rattle.exploration.specs.Steps.{Position, between, within, Admitted, Reaches}
 use Rattle.exploration.specs.Chain.{Apart}
-use Rattle.exploration.proofs.Invariant.{admissions-keep, KeptByExploration, explorations-keep}
-use Rattle.exploration.proofs.Invariant.{stateAt}
+use Rattle.exploration.proofs.Invariant.{admissions-keep, KeptByExploration, explorations-keep, stateAt}
 use Rattle.exploration.proofs.States.{explored, oldest-in, taken-cases, stays, new-in}
 use Rattle.exploration.proofs.States.{explored-out, each-member}
 

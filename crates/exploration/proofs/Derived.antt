@@ -7,14 +7,13 @@ use mathlib.Core.Logic.{_⊎_, inl, inr, _↔_}
 use mathlib.Core.List.{List}
 use Prim.Native.Nat.{ℕ}
 use Rattle.covering.specs.Lists.{_∈_}
-use Rattle.covering.specs.Term.{Question}
+use Rattle.covering.specs.Term.{Question, Below}
 use Rattle.covering.specs.Covers.{Covers}
 use Rattle.covering.proofs.Preorder.{covers-trans}
 use Rattle.covering.proofs.Form.{form-equivalent}
 use Rattle.covering.specs.Rule.{Rule}
-use Rattle.unification.specs.Step.{Below, rewritings}
-use Rattle.unification.proofs.StepComplete.{step-complete}
-use Rattle.unification.proofs.StepComplete.{HeldBefore}
+use Rattle.unification.specs.Step.{rewritings}
+use Rattle.unification.proofs.StepComplete.{step-complete, HeldBefore}
 use Rattle.unification.proofs.StepSound.{step-sound}
 use Rattle.exploration.specs.Chain.{Holds, SomeHolds, Chain, here, apply, Derives, Reached}
 use Rattle.exploration.specs.Chain.{from-question, by-step}

@@ -13,8 +13,7 @@ use Rattle.reading.specs.Verdict.{SoundBook}
 use Rattle.exploration.specs.Run.{complete}
 use Rattle.exploration.specs.Union.{outputSize, total, unionBytes, membersOf, exploredOf}
 use Rattle.exploration.specs.Answer.{Result, union, refusal, outcomeOf, result, answer, written, answerOf}
-use Rattle.exploration.specs.Answer.{writtenOf}
-use Rattle.exploration.specs.Answer.{Answers}
+use Rattle.exploration.specs.Answer.{writtenOf, Answers}
 use Rattle.exploration.specs.Refusals.{Refuses, Completes}
 use Rattle.exploration.proofs.OfBook.{Member, whole, members-most, desk-fits}
 use Rattle.exploration.proofs.UnionBytes.{union-length, total-most, explored-read, union-round}

@@ -9,8 +9,7 @@ use native.Mathlib.Omega.{arith}
 use lib.Dec.{T}
 use lib.ListN.{take}
 use Rattle.covering.specs.Term.{Question}
-use Rattle.exploration.specs.Run.{Test, Limits, State, oldest, takenUp, start, covered, appended}
-use Rattle.exploration.specs.Run.{remaining}
+use Rattle.exploration.specs.Run.{Test, Limits, State, oldest, takenUp, start, covered, appended, remaining}
 use Rattle.exploration.specs.Steps.{Position, between, within, Admitted, Reaches, begins, takes-up, drops}
 use Rattle.exploration.specs.Steps.{appends, stops, finishes}
 use Rattle.exploration.proofs.States.{explored, taken-last, last-stays}

@@ -14,8 +14,7 @@ use Rattle.exploration.specs.Chain.{Apart}
 use Rattle.exploration.proofs.Ends.{run-ends}
 use Rattle.exploration.proofs.Invariant.{taken-allowed}
 use Rattle.exploration.proofs.States.{all-explored}
-use Rattle.exploration.proofs.Covered.{CoveredBy, members-apart, members-some, question-covered}
-use Rattle.exploration.proofs.Covered.{members-room}
+use Rattle.exploration.proofs.Covered.{CoveredBy, members-apart, members-some, question-covered, members-room}
 use Rattle.exploration.proofs.Covered.{explored-closed, members-good}
 
 module _ (Cov : Question → Question → Type 0) (steps : Question → List Question) (Q : Question)

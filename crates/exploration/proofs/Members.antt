@@ -2,14 +2,13 @@
 -- Assumes nothing.
 use mathlib.Core.Path.{_≡_, refl, sym, _∙_, ap, ap₂}
 use mathlib.Core.List.{List, [], _∷_, _++_}
-use Prim.Native.Nat.{ℕ, zero, suc, _+_, _*_, _-_, _≤_, _<_}
+use Prim.Native.Nat.{ℕ, zero, suc, _+_, _-_, _≤_, _<_}
 use native.Mathlib.Omega.{arith}
 use native.Mathlib.Nat.{sub-eq-zero-of-le}
 use lib.ListN.{length, getD, take, drop, length-append}
 use lib.Seq.{getD-drop, drop-drop}
 use Rattle.covering.specs.Term.{Question}
-use Rattle.covering.specs.Record.{desk, atomsAt, questionOf, recordBytes}
-use Rattle.covering.specs.Record.{SoundRecord}
+use Rattle.covering.specs.Record.{desk, width, atomsAt, questionOf, recordBytes, SoundRecord}
 use Rattle.covering.proofs.RoundTrip.{desk-apart}
 use Rattle.covering.proofs.Lengths.{count-atoms, record-long}
 use Rattle.covering.proofs.Begun.{begun-long, begun-record}
@@ -18,13 +17,6 @@ use Rattle.covering.proofs.Copied.{atoms-copied}
 use Rattle.reading.specs.Word.{byte}
 use Rattle.covering.proofs.Tests.{one-more}
 use Rattle.exploration.specs.Union.{membersBytes, membersFrom, memberEnd}
-
--- where the member after the one at hand stands
-abbrev pub next : List ℕ → ℕ → ℕ
-next W at = at + (1 + byte W at * 5)
-
-pub end-at : (W : List ℕ) (at : ℕ) → memberEnd W at ≡ next W at
-end-at W at = omega arith
 
 -- the member at hand
 module _ (W : List ℕ) (at : ℕ) where
@@ -40,21 +32,23 @@ module _ (W : List ℕ) (at : ℕ) where
   pub question-from : questionOf desk (drop at W) ≡ atomsAt desk W (at + 1) (byte W at)
   question-from = question-at desk (drop at W) count-from ∙ atoms-from 1 (byte W at)
 
-  pub member-width : length (recordBytes desk (questionOf desk (drop at W))) ≡ 1 + byte W at * 5
-  member-width = begun-long desk (drop at W) ∙ ap (λ (n : ℕ). 1 + n * 5) count-from
+  pub member-width : length (recordBytes desk (questionOf desk (drop at W))) ≡ width desk (byte W at)
+  member-width = begun-long desk (drop at W) ∙ ap (width desk) count-from
 
   pub member-bytes : SoundRecord desk (drop at W)
-      → take (1 + byte W at * 5) (drop at W) ≡ recordBytes desk (questionOf desk (drop at W))
+      → take (width desk (byte W at)) (drop at W) ≡ recordBytes desk (questionOf desk (drop at W))
   member-bytes s =
-      ap (λ (n : ℕ). take (1 + n * 5) (drop at W)) (sym count-from) ∙ begun-record desk (drop at W) desk-apart s
+      ap (λ (n : ℕ). take (width desk n) (drop at W)) (sym count-from) ∙ begun-record desk (drop at W) desk-apart s
 
-  -- it and those after it, n in all of which i are passed
-  pub members-more : (n i : ℕ) → i < n
-      → membersFrom W at (n - i) ≡ questionOf desk (drop at W) ∷ membersFrom W (next W at) (n - (i + 1))
+  -- it and those after it; and the same of n in all, of which i are passed
+  pub members-step : (n : ℕ)
+      → membersFrom W at (suc n) ≡ questionOf desk (drop at W) ∷ membersFrom W (memberEnd W at) n
   unfolding membersFrom
-  members-more n i h =
-      ap (membersFrom W at) (one-more n i h)
-      ∙ ap₂ (λ (N : Question) (k : ℕ). N ∷ membersFrom W k (n - (i + 1))) (sym question-from) (omega arith)
+  members-step n = ap (λ (N : Question). N ∷ membersFrom W (memberEnd W at) n) (sym question-from)
+
+  pub members-more : (n i : ℕ) → i < n
+      → membersFrom W at (n - i) ≡ questionOf desk (drop at W) ∷ membersFrom W (memberEnd W at) (n - (i + 1))
+  members-more n i h = ap (membersFrom W at) (one-more n i h) ∙ members-step (n - (i + 1))
 
   pub members-none : (n i : ℕ) → n ≤ i → membersFrom W at (n - i) ≡ []
   unfolding membersFrom
@@ -115,14 +109,12 @@ module _ (W X : List ℕ) where
 
   pub later : (i : ℕ) → drop i X ≡ drop i W → drop (memberEnd W i) X ≡ drop (memberEnd W i) W
   later i e =
-      ap (λ (j : ℕ). drop j X) (end-at W i)
-      ∙ sym (drop-drop (1 + byte W i * 5) i X)
-      ∙ ap (drop (1 + byte W i * 5)) e
-      ∙ drop-drop (1 + byte W i * 5) i W
-      ∙ ap (λ (j : ℕ). drop j W) (sym (end-at W i))
+      sym (drop-drop (width desk (byte W i)) i X)
+      ∙ ap (drop (width desk (byte W i))) e
+      ∙ drop-drop (width desk (byte W i)) i W
 
   pub end-same : (i : ℕ) → drop i X ≡ drop i W → memberEnd X i ≡ memberEnd W i
-  end-same i e = ap (λ (b : ℕ). i + 1 + b * 5) (count-same i e)
+  end-same i e = ap (λ (b : ℕ). i + width desk b) (count-same i e)
 
   pub members-same : (i n : ℕ) → drop i X ≡ drop i W → membersFrom X i n ≡ membersFrom W i n
   unfolding membersFrom

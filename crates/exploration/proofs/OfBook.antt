@@ -6,7 +6,7 @@ use Prim.Native.Nat.{ℕ, _≤_}
 use native.Mathlib.Omega.{arith}
 use lib.ListN.{length}
 use Rattle.covering.specs.Lists.{_∈_}
-use Rattle.covering.specs.Term.{Question}
+use Rattle.covering.specs.Term.{Question, Below}
 use Rattle.covering.specs.Covers.{Covers}
 use Rattle.covering.specs.Search.{covers}
 use Rattle.covering.specs.Form.{form}
@@ -15,19 +15,19 @@ use Rattle.covering.proofs.Preorder.{covers-refl, covers-trans}
 use Rattle.covering.proofs.Decides.{covers-decides}
 use Rattle.covering.proofs.Form.{form-equivalent}
 use Rattle.covering.proofs.SameForm.{form-form}
+use Rattle.covering.proofs.Fitting.{form-fits}
 use Rattle.covering.proofs.Wider.{Wider, fits-wider}
 use Rattle.covering.specs.Rule.{Rule}
 use Rattle.reading.specs.Book.{bookOf, layoutOf}
 use Rattle.reading.specs.Verdict.{SoundBook}
 use Rattle.reading.proofs.SoundBook.{own-room, sound-header}
-use Rattle.reading.proofs.Fits.{body-some, body-few, body-fits, head-fits, question-some, question-few, question-fits}
-use Rattle.unification.specs.Step.{Below, rewritings}
+use Rattle.reading.proofs.Fits.{body-some, body-few, body-fits, head-fits, question-record}
+use Rattle.unification.specs.Step.{rewritings}
 use Rattle.unification.proofs.Collected.{gather-in, gather-out}
 use Rattle.exploration.specs.Run.{limits, State, complete, start, apart, allRewritings, exploring, runBy, run}
 use Rattle.exploration.specs.Steps.{within, Reaches}
-use Rattle.exploration.specs.Chain.{SomeHolds, Derives, Reached}
-use Rattle.exploration.specs.Chain.{from-question, by-step}
-use Rattle.exploration.proofs.Small.{roomFor, RuleFits, fits-below, form-fits, rewriting-formed}
+use Rattle.exploration.specs.Chain.{SomeHolds, Derives, Reached, from-question, by-step}
+use Rattle.exploration.proofs.Small.{roomFor, RuleFits, fits-below, rewriting-formed}
 use Rattle.exploration.proofs.Small.{rewriting-short, rewriting-fits}
 use Rattle.exploration.proofs.Covered.{taken-good}
 use Rattle.exploration.proofs.Left.{Left, complete-left, complete-most, complete-taken}
@@ -72,9 +72,7 @@ module _ (B : List ℕ) where
     pub first-member : Member (form askedOf)
     first-member =
         record {
-          fits =
-              form-fits (layoutOf B) 8 askedOf (question-some B s) (question-few B s)
-              (question-fits B (layoutOf B) (own-room B) s);
+          fits = form-fits (layoutOf B) askedOf (omega arith) (question-record B (layoutOf B) (own-room B) s (omega arith));
           formed = form-form askedOf;
           reached = from-question refl;
         }

@@ -14,16 +14,14 @@ use Rattle.covering.specs.Search.{covers}
 use Rattle.covering.proofs.Tests.{decide, clash, cond-yes, cond-no}
 use Rattle.reading.specs.Book.{bookOf}
 use Rattle.reading.specs.Refusals.{ApplicableToBook}
-use Rattle.reading.specs.Verdict.{IsVerdict, sound, refused as refused-book, verdict}
-use Rattle.reading.specs.Verdict.{SoundBook}
+use Rattle.reading.specs.Verdict.{IsVerdict, sound, refused as refused-book, verdict, SoundBook}
 use Rattle.reading.proofs.Exact.{verdict-exact, number-from}
 use Rattle.reading.proofs.SoundBook.{sound-none}
 use Rattle.exploration.specs.Run.{limits, Why, too-long, no-room, none-left, refusalNumber, Outcome, complete, refused}
 use Rattle.exploration.specs.Run.{allRewritings}
 use Rattle.exploration.specs.Union.{outputSize}
 use Rattle.exploration.specs.Answer.{Result, union, refusal, resultOf, outcomeOf, result}
-use Rattle.exploration.specs.Refusals.{one, of-book, RunEnds, Refuses, smallest, met, Completes}
-use Rattle.exploration.specs.Refusals.{Applicable}
+use Rattle.exploration.specs.Refusals.{one, of-book, RunEnds, Refuses, smallest, met, Completes, Applicable}
 use Rattle.exploration.proofs.Ends.{run-ends, ends-only}
 use Rattle.exploration.proofs.OfBook.{run-is}
 

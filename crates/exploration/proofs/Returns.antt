@@ -8,8 +8,7 @@ use lib.Dec.{eqb, ltb}
 use borrow.Author.Tests.{le-ltb, eq-eqb, ne-eqb, lt-ltb}
 use lib.ListN.{length, drop}
 use Rattle.covering.specs.Term.{Question}
-use Rattle.reading.specs.Verdict.{verdict}
-use Rattle.reading.specs.Verdict.{SoundBook}
+use Rattle.reading.specs.Verdict.{verdict, SoundBook}
 use Rattle.exploration.specs.Run.{Why, refusalNumber, complete, refused}
 use Rattle.exploration.specs.Union.{outputSize, total, unionBytes}
 use Rattle.exploration.specs.Answer.{Result, union, refusal, resultOf, outcomeOf, result, answer, written}

@@ -2,26 +2,25 @@
 -- variables below m x p, and takes its relations, its numbers of places and its constants from the question and the
 -- rules. So rewritings of a member of at most 8 atoms of at most 4 places are apart from rules moved up by 32, and a
 -- rewriting of at most 11 atoms fits the desk's record. Assumes nothing.
-use mathlib.Core.Path.{_≡_, sym, _∙_, ap, subst}
+use mathlib.Core.Path.{_≡_, sym, subst}
 use mathlib.Core.Logic.{_⊎_, inl, inr}
-use mathlib.Core.List.{_++_, List·Memᴰ·append-cases, Memᴰ·append-right, Memᴰ·map, Memᴰ·of-map}
+use mathlib.Core.List.{_++_, List·Memᴰ·append-cases, Memᴰ·append-right, Memᴰ·map}
 use Prim.Native.Nat.{ℕ, _+_, _*_, _≤_, _<_}
 use native.Mathlib.Omega.{arith}
-use lib.ListN.{length, length-map}
+use lib.ListN.{length}
 use Rattle.covering.specs.Lists.{_∈_}
-use Rattle.covering.specs.Term.{Term, var, con, Atom, Question, Sub, on-term, on-atom, terms}
-use Rattle.covering.specs.Form.{dedup, numbering, form}
+use Rattle.covering.specs.Term.{Term, var, con, Atom, Question, on-atom, terms, Below}
+use Rattle.covering.specs.Form.{form}
 use Rattle.covering.specs.Record.{Layout, TermFits, AtomFits, Fits}
 use Rattle.covering.proofs.Lists.{in-some, first-in}
-use Rattle.covering.proofs.Terms.{var≢con, con-inj, terms-in, terms-out}
+use Rattle.covering.proofs.Terms.{terms-in, terms-out}
 use Rattle.covering.proofs.Form.{form-equivalent}
-use Rattle.covering.proofs.SameForm.{form-form}
 use Rattle.covering.specs.Rule.{Rule}
 use Rattle.unification.specs.Choice.{left}
-use Rattle.unification.specs.Step.{up, move, Below, rewriting, rewritings}
+use Rattle.unification.specs.Step.{up, move, rewriting, rewritings}
 use Rattle.unification.proofs.Listed.{Made, rewritings-out}
-use Rattle.unification.proofs.Sizes.{form-length, form-atom, in-form-below, listed-form, listed-length, listed-shape}
-use Rattle.unification.proofs.Sizes.{listed-constant}
+use Rattle.unification.proofs.Sizes.{listed-form, listed-length, listed-shape, listed-constant}
+use Rattle.covering.proofs.FormSizes.{in-form-below}
 
 -- the layout of questions of at most m atoms in form
 abbrev pub roomFor : Layout → ℕ → Layout
@@ -91,42 +90,6 @@ module _ (L : Layout) where
   -- a question with an atom has one in form
   form-some : (A : Question) (a : Atom) → a ∈ A → 1 ≤ length (form A)
   form-some A a m = in-some (form A) (form-equivalent A .0 .sends a m)
-
-  -- "The question is put in this form before it starts."
-  pub form-fits : (m : ℕ) (A : Question) → 1 ≤ length A → length A ≤ m → ((a : Atom) → a ∈ A → AtomFits L a)
-      → Fits (roomFor L m) (form A)
-  form-fits m A some few f =
-      formed-fits m (form A) (form-form A) (let x = first-in A some in form-some A (x .0) (x .1))
-      (let h = form-length A in omega arith)
-      (λ a x. frame a (form-atom A a x))
-      constant
-    where
-      N : Sub
-      N = numbering (dedup A)
-
-      frame : (a : Atom) → (b : Atom) × (b ∈ A) × (on-atom N b ≡ a) → Frame a
-      frame a x =
-          frame-like (sym (ap (λ (c : Atom). c .rel) (x .2)))
-          (sym (ap (λ (c : Atom). length (c .args)) (x .2)) ∙ length-map (x .0 .args) (on-term N))
-          (frame-of (f (x .0) (x .1)))
-
-      -- numbering gives no constant
-      unnumbered : (c : ℕ) (t : Term) → t ∈ terms A → on-term N t ≡ con c → c < L .constants
-      unnumbered c (var n) y e = absurd (var≢con e)
-      unnumbered c (con d) y e =
-          subst (λ (i : ℕ). i < L .constants) (con-inj e) (fits-constant A f d y)
-
-      constant : (c : ℕ) → con c ∈ terms (form A) → c < L .constants
-      constant c m = go (terms-out (form A) m)
-        where
-          at : (a : Atom) → con c ∈ a .args → (b : Atom) × (b ∈ A) × (on-atom N b ≡ a) → c < L .constants
-          at a y x =
-              let z =
-              Memᴰ·of-map (on-term N) (x .0 .args) (subst (λ (d : Atom). con c ∈ d .args) (sym (x .2)) y) in
-              unnumbered c (z .0) (terms-in A (x .1) (z .1)) (z .2)
-
-          go : (a : Atom) × (a ∈ form A) × (con c ∈ a .args) → c < L .constants
-          go x = at (x .0) (x .2) (form-atom A (x .0) (x .1))
 
   -- a rewriting of a member by a rule
   module _ {cap : ℕ} {r : Rule} {M P : Question} (member : Fits (roomFor L cap) M) (fits : RuleFits L r)

@@ -2,14 +2,13 @@
 -- Assumes nothing.
 use mathlib.Core.Path.{_≡_, refl, sym, _∙_, ap, subst}
 use mathlib.Core.List.{List, [], _∷_, _++_, append-assoc, List·Memᴰ·head, List·Memᴰ·tail}
-use Prim.Native.Nat.{ℕ, _+_, _*_, _-_, _≤_, _<_}
+use Prim.Native.Nat.{ℕ, _+_, _-_, _≤_, _<_, suc}
 use native.Mathlib.Omega.{arith}
 use lib.ListN.{length, getD, drop, length-drop}
 use lib.Seq.{drop-drop, drop-at, getD-drop}
 use Rattle.covering.specs.Lists.{_∈_}
 use Rattle.covering.specs.Term.{Question}
-use Rattle.covering.specs.Record.{desk, recordBytes, Fits}
-use Rattle.covering.specs.Record.{SoundRecord}
+use Rattle.covering.specs.Record.{desk, recordBytes, Fits, SoundRecord}
 use Rattle.covering.proofs.Lengths.{record-is, record-long}
 use Rattle.covering.proofs.RoundTrip.{desk-apart}
 use Rattle.covering.proofs.Begun.{begun-sound}
@@ -17,8 +16,7 @@ use Rattle.reading.specs.Word.{byte}
 use Rattle.exploration.specs.Union.{membersBytes, memberEnd}
 use Rattle.exploration.specs.Standing.{Standing}
 use Rattle.covering.proofs.Tests.{one-more}
-use Rattle.exploration.specs.Standing.{Standing}
-use Rattle.exploration.proofs.Members.{end-at, count-from}
+use Rattle.exploration.proofs.Members.{count-from}
 
 module _ (W : List ℕ) where
   pub members-stand : (i : ℕ) (U : List Question) (R : List ℕ) → ((M : Question) → M ∈ U → Fits desk M)
@@ -58,18 +56,20 @@ module _ (W : List ℕ) where
 pub record Here (W : List ℕ) (at n : ℕ) : Type 0 where
   pub sound : SoundRecord desk (drop at W)
   pub most : byte W at ≤ 11
-  pub within : at + (1 + byte W at * 5) ≤ length W
-  pub rest : Standing W (at + (1 + byte W at * 5)) n
+  pub within : memberEnd W at ≤ length W
+  pub rest : Standing W (memberEnd W at) n
 
-pub stands : (W : List ℕ) (at i n : ℕ) → i < n → Standing W at (n - i) → Here W at (n - (i + 1))
+pub stands-here : (W : List ℕ) (at n : ℕ) → Standing W at (suc n) → Here W at n
 unfolding Standing
-stands W at i n h s =
-    let m : SoundRecord desk (drop at W) × Standing W (memberEnd W at) (n - (i + 1)) =
-    subst (Standing W at) (one-more n i h) s in
+stands-here W at n s =
     let e = count-from W at in
     record {
-      sound = m .0;
-      most = omega (arith, m .0 .most, e);
-      within = omega (arith, m .0 .fits, e, length-drop at W);
-      rest = subst (λ (k : ℕ). Standing W k (n - (i + 1))) (end-at W at) (m .1);
+      sound = s .0;
+      most = omega (arith, s .0 .most, e);
+      within = omega (arith, s .0 .fits, e, length-drop at W);
+      rest = s .1;
     }
+
+-- the same of n in all, of which i are passed
+pub stands : (W : List ℕ) (at i n : ℕ) → i < n → Standing W at (n - i) → Here W at (n - (i + 1))
+stands W at i n h s = stands-here W at (n - (i + 1)) (subst (Standing W at) (one-more n i h) s)

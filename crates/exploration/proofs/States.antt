@@ -2,9 +2,8 @@
 use mathlib.Core.Path.{_≡_, refl, sym, _∙_, ap, subst}
 use mathlib.Core.Bool.{Bool, not}
 use mathlib.Core.Logic.{_⊎_, inl, inr}
-use mathlib.Core.List.{List, [], _∷_, _++_, append-assoc}
-use mathlib.Core.List.{List·Memᴰ·head, List·Memᴰ·tail, List·Memᴰ·append-cases, List·Memᴰ·eq-of-singleton}
-use mathlib.Core.List.{Memᴰ·append-left, Memᴰ·append-right}
+use mathlib.Core.List.{List, [], _∷_, _++_, append-assoc, List·Memᴰ·head, List·Memᴰ·tail, List·Memᴰ·append-cases}
+use mathlib.Core.List.{List·Memᴰ·eq-of-singleton, Memᴰ·append-left, Memᴰ·append-right}
 use mathlib.Core.Option.{none, some, Option·some-injective}
 use Prim.Native.Nat.{ℕ, zero, suc}
 use lib.Dec.{T}
@@ -14,8 +13,7 @@ use Rattle.covering.specs.Lists.{_∈_, keep, head}
 use Rattle.covering.specs.Term.{Question}
 use Rattle.covering.proofs.Lists.{keep-in, keep-out, keep-append}
 use Rattle.covering.proofs.Tests.{none≢some, cond-yes}
-use Rattle.exploration.specs.Run.{Test, State, oldest, takenUp, appended}
-use Rattle.exploration.specs.Run.{remaining}
+use Rattle.exploration.specs.Run.{Test, State, oldest, takenUp, appended, remaining}
 
 module _ {A : Type 0} where
   -- of those in front the ones that are kept stay in front

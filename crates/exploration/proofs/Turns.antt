@@ -7,9 +7,8 @@ use mathlib.Core.Option.{Option, none, some}
 use Prim.Native.Nat.{ℕ, zero, suc}
 use Rattle.covering.specs.Term.{Question}
 use Rattle.exploration.specs.Run.{Test, Limits, State, Why, none-left, Admission, dropped, admitted, stopped}
-use Rattle.exploration.specs.Run.{Pass, passed, failed}
-use Rattle.exploration.specs.Run.{Outcome, complete, refused, onAdmission, onPass, onOption, oldest, takenUp}
-use Rattle.exploration.specs.Run.{admit, through, exploring}
+use Rattle.exploration.specs.Run.{Pass, passed, failed, Outcome, complete, refused, onAdmission, onPass}
+use Rattle.exploration.specs.Run.{onOption, oldest, takenUp, admit, through, exploring}
 use Rattle.exploration.proofs.Admits.{through-next}
 
 -- one rewriting P of the member M, and Ps after it: by what becomes of it

@@ -10,8 +10,7 @@ use Rattle.covering.specs.Lists.{_∈_, gather}
 use Rattle.covering.specs.Term.{Question}
 use Rattle.covering.specs.Record.{desk, size, atomsAt, atomBytes, recordBytes, Fits}
 use Rattle.covering.proofs.Lengths.{record-is, record-long}
-use Rattle.covering.proofs.RoundTrip.{atoms-read}
-use Rattle.covering.proofs.RoundTrip.{desk-apart}
+use Rattle.covering.proofs.RoundTrip.{atoms-read, desk-apart}
 use Rattle.reading.specs.Word.{byte, word}
 use Rattle.reading.proofs.Reading.{word-is}
 use Rattle.exploration.specs.Union.{wordBytes, membersBytes, firstAt, total, unionBytes, outputSize}

@@ -5,11 +5,11 @@ use mathlib.Core.List.{List, [], _∷_}
 use Prim.Native.Nat.{ℕ, _<_}
 use lib.ListN.{length, getD}
 use Rattle.covering.specs.Lists.{_∈_}
-use Rattle.covering.specs.Term.{var, Atom, Question, terms}
+use Rattle.covering.specs.Term.{var, Atom, Question, terms, Below}
 use Rattle.covering.specs.Covers.{Covers}
 use Rattle.covering.specs.Form.{form}
 use Rattle.covering.specs.Rule.{Rule}
-use Rattle.unification.specs.Step.{Below, rewritings}
+use Rattle.unification.specs.Step.{rewritings}
 use Rattle.unification.specs.Apply.{Applies}
 
 -- facts of named things: a constant is a named thing, in the book or not, and there is no unknown among them

@@ -2,8 +2,7 @@
 use mathlib.Core.List.{List}
 use Prim.Native.Nat.{ℕ, zero, suc}
 use lib.ListN.{drop}
-use Rattle.covering.specs.Record.{desk}
-use Rattle.covering.specs.Record.{SoundRecord}
+use Rattle.covering.specs.Record.{desk, SoundRecord}
 use Rattle.exploration.specs.Union.{memberEnd}
 
 -- n members stand from i on, one after the other, each as a sound record

@@ -9,8 +9,7 @@ use lib.Dec.{T}
 use lib.ListN.{length}
 use Rattle.covering.specs.Term.{Question}
 use Rattle.exploration.specs.Run.{Test, Limits, State, too-long, no-room, none-left, Outcome, complete, refused}
-use Rattle.exploration.specs.Run.{oldest, takenUp, start, covered, appended}
-use Rattle.exploration.specs.Run.{remaining}
+use Rattle.exploration.specs.Run.{oldest, takenUp, start, covered, appended, remaining}
 
 -- Between two explorations, so many questions taken up; or exploring a member, these of its rewritings yet to come.
 pub data Position : Type 0 where

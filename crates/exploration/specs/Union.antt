@@ -1,10 +1,10 @@
 -- The union as bytes (01, "Union as written"), there and back.
 use mathlib.Core.List.{List, [], _∷_, _++_}
-use Prim.Native.Nat.{ℕ, zero, suc, _+_, _*_, _/_, _%_}
+use Prim.Native.Nat.{ℕ, zero, suc, _+_, _/_, _%_}
 use lib.ListN.{length}
 use Rattle.covering.specs.Lists.{gather}
 use Rattle.covering.specs.Term.{Question}
-use Rattle.covering.specs.Record.{desk, size, atomsAt, recordBytes}
+use Rattle.covering.specs.Record.{desk, width, atomsAt, recordBytes}
 use Rattle.reading.specs.Word.{byte, word}
 
 -- "little-endian 16-bit words"
@@ -35,7 +35,7 @@ outputSize = 2632
 
 -- From bytes: where the member after the one at i starts, and n members from i on.
 abbrev pub memberEnd : List ℕ → ℕ → ℕ
-memberEnd W i = i + 1 + byte W i * size desk
+memberEnd W i = i + width desk (byte W i)
 
 unfoldable pub membersFrom : List ℕ → ℕ → ℕ → List Question
 membersFrom W i zero = []

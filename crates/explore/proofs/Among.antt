@@ -4,7 +4,7 @@ use mathlib.Core.Path.{_≡_, refl, sym, _∙_, ap, subst}
 use mathlib.Core.Bool.{true, false, true≢false}
 use mathlib.Core.List.{List}
 use mathlib.Core.Option.{Option, none, some}
-use Prim.Native.Nat.{ℕ, suc, _+_, _*_, _-_, _≤_, _<_}
+use Prim.Native.Nat.{ℕ, suc, _+_, _-_, _≤_, _<_}
 use native.Mathlib.Omega.{arith}
 use native.Mathlib.Nat.{sub-zero}
 use lib.ListN.{length, getD, drop}
@@ -13,7 +13,6 @@ use Rattle.covering.specs.Lists.{head}
 use Rattle.covering.specs.Term.{Question}
 use Rattle.covering.specs.Record.{desk, questionOf}
 use Rattle.covering.specs.Rule.{Rule}
-use Rattle.reading.specs.Word.{byte}
 use Rattle.reading.specs.declared.Header.{Header}
 use Rattle.book.specs.declared.Parts.{Parts}
 use Rattle.reading.specs.Header.{rules, HeaderRead}
@@ -24,13 +23,12 @@ use Rattle.reading.specs.Book.{ruleAt, rulesFrom, ruleStart}
 use Rattle.reading.proofs.Reading.{rules-none, rules-more}
 use Rattle.lister.specs.declared.Found.{Found}
 use Rattle.lister.specs.Asking.{ruleOf, RuleIn, QuestionIn, foundOf}
-use Rattle.lister.proofs.FromBook.{rule-in, rule-is, found-within}
+use Rattle.lister.proofs.FromBook.{rule-in, rule-asked, found-within}
 use Rattle.unification.specs.Choice.{mostChoices}
 use Rattle.unification.specs.Step.{next}
 use Rattle.exploration.specs.Run.{apart}
-use Rattle.explore.specs.Taking.{orLater, nextAmong, taken}
-use Rattle.explore.specs.Taking.{NumberedRewriting}
-use Rattle.exploration.specs.Union.{membersFrom, firstAt}
+use Rattle.explore.specs.Taking.{orLater, nextAmong, taken, NumberedRewriting}
+use Rattle.exploration.specs.Union.{membersFrom, firstAt, memberEnd}
 use Rattle.exploration.specs.Standing.{Standing}
 use Rattle.exploration.proofs.Standing.{Here, stands}
 use Rattle.exploration.proofs.Members.{members-more}
@@ -93,7 +91,7 @@ module _ (W : List ℕ) (count : ℕ) where
     pub from-here : Here W at (count - (i + 1))
     from-here = stands W at i count h (f .standing)
 
-    pub from-next : From W count (at + (1 + byte W at * 5)) (i + 1)
+    pub from-next : From W count (memberEnd W at) (i + 1)
     from-next =
         record {
           standing = from-here .rest;
@@ -139,7 +137,7 @@ module _ (B : List ℕ) (s : SoundBook B) where
       found-is M n f x =
           x
           ∙ ap (λ (q : Parts). foundOf (next 32 (ruleOf B q) M n)) parts-are
-          ∙ ap (λ (r : Rule). foundOf (next 32 r M n)) (rule-is B (ruleStart B k))
+          ∙ ap (λ (r : Rule). foundOf (next 32 r M n)) (rule-asked B (ruleStart B k))
 
       pub few-choices : (Q : List ℕ) → QuestionIn Q → (n : ℕ) (f : Found)
           → f ≡ foundOf (next 32 (ruleOf B p) (questionOf desk Q) n) → f .found ≡ true → f .choice < mostChoices

@@ -16,8 +16,7 @@ use Rattle.covering.specs.Rule.{Rule}
 use Rattle.unification.specs.Step.{next}
 use Rattle.explore.specs.declared.Taken.{Taken}
 use Rattle.exploration.specs.Run.{apart, allRewritings}
-use Rattle.explore.specs.Taking.{orLater, nextAmong, taken}
-use Rattle.explore.specs.Taking.{NumberedRewriting}
+use Rattle.explore.specs.Taking.{orLater, nextAmong, taken, NumberedRewriting}
 use Rattle.exploration.proofs.YetToCome.{yetToCome, rule-begun, rewriting-found, rule-done}
 
 -- from choice n of the first of these rules on

@@ -14,9 +14,8 @@ use Rattle.explore.specs.declared.Taken.{Taken}
 use Rattle.admit.specs.declared.Fate.the-variants.{Dropped, Appended, Refused}
 use Rattle.explore.specs.declared.Explored.the-variants.{Passed, Refused as NotExplored}
 use Rattle.exploration.specs.Run.{limits, through, allRewritings}
-use Rattle.admit.specs.WorkingArray.{Working, FateIs}
+use Rattle.admit.specs.WorkingArray.{Working, FateIs, stateIn}
 use Rattle.explore.specs.Exploring.{ExploredIs}
-use Rattle.admit.specs.WorkingArray.{stateIn}
 use Rattle.exploration.proofs.Admits.{through-none}
 use Rattle.exploration.proofs.Turns.{turn-dropped, turn-refused, turn-appended, turn-stopped}
 use Rattle.explore.proofs.Coming.{coming, coming-all, Given}

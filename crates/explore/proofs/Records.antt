@@ -5,8 +5,7 @@ use Prim.Native.Nat.{ℕ}
 use native.Mathlib.Omega.{arith}
 use Rattle.covering.specs.Lists.{_∈_}
 use Rattle.covering.specs.Term.{Question}
-use Rattle.covering.specs.Record.{desk, questionOf, Fits}
-use Rattle.covering.specs.Record.{SoundRecord}
+use Rattle.covering.specs.Record.{desk, questionOf, Fits, SoundRecord}
 use Rattle.covering.specs.Buffer.{heldIn}
 use Rattle.covering.proofs.Wider.{fits-wider}
 use Rattle.covering.proofs.Padded.{desk-question, desk-sound}

@@ -9,8 +9,7 @@ use Rattle.covering.specs.Lists.{_∈_, head}
 use Rattle.covering.specs.Term.{Question}
 use Rattle.covering.specs.Search.{covers}
 use Rattle.covering.specs.Form.{form}
-use Rattle.covering.specs.Record.{desk, questionOf, recordBytes, Fits}
-use Rattle.covering.specs.Record.{SoundRecord}
+use Rattle.covering.specs.Record.{desk, questionOf, recordBytes, Fits, SoundRecord}
 use Rattle.covering.specs.Buffer.{heldIn}
 use Rattle.covering.proofs.Lengths.{question-count, record-long}
 use Rattle.reading.specs.declared.Header.{Header}
@@ -27,9 +26,8 @@ use Rattle.exploration.specs.Run.{takenUp, start, through, exploring, allRewrit
 use Rattle.exploration.specs.Steps.{between, within, Reaches, begins, takes-up}
 use Rattle.exploration.specs.Union.{firstAt, outputSize}
 use Rattle.exploration.specs.Answer.{outcomeOf}
-use Rattle.admit.specs.WorkingArray.{Working}
+use Rattle.admit.specs.WorkingArray.{Working, HoldsState, stateIn}
 use Rattle.explore.specs.Exploring.{MemberIn, ExploredIs, RanIs}
-use Rattle.admit.specs.WorkingArray.{HoldsState, stateIn}
 use Rattle.explore.proofs.Records.{member-question}
 use Rattle.covering.proofs.Padded.{desk-sound, desk-question}
 use Rattle.exploration.proofs.UnionBytes.{total-is}

@@ -14,9 +14,8 @@ use Rattle.explore.specs.declared.Explored.{Explored}
 use Rattle.explore.specs.declared.Explored.the-variants.{Passed, Refused as NotExplored}
 use Rattle.explore.specs.declared.Ran.{Ran}
 use Rattle.explore.specs.declared.Ran.the-variants.{Complete, Refused as NotRun}
-use Rattle.exploration.specs.Run.{limits, Why, refusalNumber, passed, failed}
-use Rattle.exploration.specs.Run.{Outcome, complete, refused}
-use Rattle.exploration.specs.Run.{oldest, through, allRewritings}
+use Rattle.exploration.specs.Run.{limits, Why, refusalNumber, passed, failed, Outcome, complete, refused, oldest}
+use Rattle.exploration.specs.Run.{through, allRewritings}
 use Rattle.admit.specs.WorkingArray.{stateIn, Working}
 
 -- "the oldest unexplored member", as a record of 56 bytes

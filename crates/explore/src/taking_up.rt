@@ -2,8 +2,7 @@
 ghost use mathlib.Core.Path.{_≡_};
 ghost use Prim.Native.Nat.{_<_};
 ghost use lib.ListN.{drop};
-ghost use Rattle.covering.specs.Record.{desk, questionOf};
-ghost use Rattle.covering.specs.Record.{SoundRecord};
+ghost use Rattle.covering.specs.Record.{desk, questionOf, SoundRecord};
 ghost use Rattle.covering.specs.Buffer.{heldIn};
 ghost use Rattle.reading.specs.Book.{bookOf};
 ghost use Rattle.reading.specs.Header.{rules as rulesOf};
@@ -23,7 +22,7 @@ fn copy_record(member: &[u8]) -> [u8; 56]
     requires { ⌜ SoundRecord desk (now member) ⌝ }
     ensures { λ r. ⌜ r ≡ heldIn desk 56 (questionOf desk (now (member .entry))) ⌝ }
 {
-    let width = 1 + (member[0] as usize) * 5;
+    let width = cover::width(member[0]);
     let mut copy = [255u8; 56];
     let mut i = 0;
     while i < width {
@@ -41,7 +40,7 @@ pub fn oldest(work: &[u8], filled: Extent) -> [u8; 56]
     let mut at = FIRST;
     let mut passed = 0;
     while passed < filled.front {
-        at += 1 + (work[at] as usize) * 5;
+        at += cover::width(work[at]);
         passed += 1;
     }
     copy_record(&work[at..])

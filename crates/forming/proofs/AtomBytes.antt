@@ -21,8 +21,7 @@ use Rattle.forming.specs.Building.{subOf}
 use Rattle.covering.proofs.Tests.{either, both, fst-of, snd-of, true→T, T→true, no→false}
 use Rattle.covering.proofs.Terms.{atom-path, eqAtom→eq, eqAtom-refl}
 use Rattle.covering.proofs.Bytes.{term-var, term-con, atom-used, term-constant}
-use Rattle.covering.proofs.RoundTrip.{atoms-read, atoms-back}
-use Rattle.covering.proofs.RoundTrip.{TellsApart}
+use Rattle.covering.proofs.RoundTrip.{atoms-read, atoms-back, TellsApart}
 use Rattle.covering.proofs.Lengths.{atom-long}
 use Rattle.covering.proofs.Fitting.{term-is-used}
 
@@ -158,6 +157,11 @@ module _ (L : Layout) (ap-L : TellsApart L) (s : Sub) (B : List ℕ) where
   unfolding atomBytes atomAt
   atom-on-place i (suc k) t pos lt =
       rw (further i k) (places-on (L .places) (i + 1) k (atom-used L B i t) (omega arith))
+
+-- what a table has for a variable
+pub table-at : (table : List ℕ) (n : ℕ) → subOf table n ≡ termOf (getD table n 0)
+unfolding subOf
+table-at table n = refl
 
 -- a byte on a table
 pub variable-on : (table : List ℕ) (t : ℕ) → t < 128 → byteOf (on-term (subOf table) (termOf t)) ≡ getD table t 0

@@ -11,19 +11,16 @@ use native.Mathlib.Omega.{arith}
 use lib.ListN.{length, getD, length-append}
 use Rattle.covering.specs.Lists.{_∈_}
 use Rattle.covering.specs.Term.{Atom, Question, Sub, on-atom, on-question, terms, eqAtom}
-use Rattle.covering.specs.Form.{dedup, firsts, numbering, form}
-use Rattle.covering.specs.Record.{Layout, desk, size, questionOf, AtomFits, Fits}
-use Rattle.covering.specs.Record.{SoundRecord}
-use Rattle.covering.specs.Buffer.{heldIn}
-use Rattle.covering.specs.Buffer.{RoomLeft}
+use Rattle.covering.specs.Form.{dedup, firsts, numbering}
+use Rattle.covering.specs.Record.{Layout, desk, size, questionOf, AtomFits, Fits, SoundRecord}
+use Rattle.covering.specs.Buffer.{heldIn, RoomLeft}
 use Rattle.forming.specs.Building.{has, added, newNumber, subOf}
 use Rattle.covering.proofs.Lists.{map-append}
 use Rattle.covering.proofs.Tests.{either}
-use Rattle.covering.proofs.RoundTrip.{TellsApart}
+use Rattle.covering.proofs.RoundTrip.{TellsApart, desk-apart}
 use Rattle.covering.proofs.Padded.{held-question, held-room, held-sound}
-use Rattle.covering.proofs.RoundTrip.{desk-apart}
 use Rattle.forming.proofs.Leftward.{added-old, added-new}
-use Rattle.covering.proofs.Fitting.{sound-fits, dedup-fits, renumber-fits, form-fits}
+use Rattle.covering.proofs.Fitting.{sound-fits, dedup-fits, renumber-fits}
 use Rattle.forming.proofs.Renaming.{on-table}
 
 -- B holds just these atoms, and there is room for some more
@@ -48,12 +45,6 @@ module _ (L : Layout) (ap-L : TellsApart L) (n : ℕ) (B : List ℕ) (A : Questi
   pub grows-room : 0 < more → RoomLeft L n B
   grows-room h =
       subst (RoomLeft L n) (sym (g .bytes)) (held-room L n A ap-L (g .each) (fewer (length A + 1) (omega arith)))
-
-  -- once it is built
-  pub grows-sound : 1 ≤ length A → length A ≤ L .atoms → SoundRecord L B
-  grows-sound some most =
-      let f : Fits L A = record { some-atom = some; most = most; each = g .each } in
-      subst (SoundRecord L) (sym (g .bytes)) (held-sound L n A ap-L f (fewer (length A) (omega arith)))
 
   module _ (R : List ℕ) (a : Atom) (f : AtomFits L a) (h : 0 < more) where
     -- after `put_atom`
@@ -127,19 +118,6 @@ module _ (L : Layout) (ap-L : TellsApart L) (some-place : 1 ≤ L .places) (n : 
   dropped-question K e =
       ap (questionOf L) e
       ∙ held-question L n (dedup (questionOf L B)) ap-L (dedup-fits L (questionOf L B) fits .each)
-
-  -- what a caller of `in_form` knows of its result
-  module _ (variables : L .atoms * L .places ≤ L .variables) (R : List ℕ) (e : R ≡ heldIn L n (form (questionOf L B)))
-    where
-      pub form-sound : SoundRecord L R
-      form-sound =
-          let f = form-fits L (questionOf L B) variables fits in
-          subst (SoundRecord L) (sym e) (held-sound L n (form (questionOf L B)) ap-L f (short _ f))
-
-      pub form-question : questionOf L R ≡ form (questionOf L B)
-      form-question =
-          ap (questionOf L) e
-          ∙ held-question L n (form (questionOf L B)) ap-L (form-fits L (questionOf L B) variables fits .each)
 
 -- the table of a sound record's new numbers: an atom on it is that atom renumbered, and fits
 module _ (B : List ℕ) (s : SoundRecord desk B) (table : List ℕ)

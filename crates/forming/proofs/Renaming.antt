@@ -14,8 +14,7 @@ use Rattle.covering.specs.Lists.{_∈_}
 use Rattle.covering.specs.Term.{Term, var, con, Atom, Question, on-term, on-atom, terms}
 use Rattle.covering.specs.Form.{firsts, index, numbering}
 use Rattle.covering.specs.Record.{desk, termOf, argsAt, TermFits, Fits}
-use Rattle.forming.specs.Building.{has, seen, allSeen, newNumber, subOf}
-use Rattle.forming.specs.Building.{NumberTable}
+use Rattle.forming.specs.Building.{has, seen, allSeen, newNumber, subOf, NumberTable}
 use Rattle.covering.proofs.Lists.{any-in, any-out}
 use Rattle.covering.proofs.Tests.{either, cond-yes, true→T, T→true, false→no}
 use Rattle.covering.proofs.Terms.{terms-in, on-atom-same}

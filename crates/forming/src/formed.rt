@@ -6,13 +6,9 @@ ghost use Prim.Native.Nat.{ℕ, _+_, _≤_, _<_};
 ghost use lib.ListN.{getD};
 ghost use Rattle.covering.specs.Term.{on-term, on-atom, eqAtom, terms};
 ghost use Rattle.covering.specs.Form.{dedup, firsts, renumber, form};
-ghost use Rattle.covering.specs.Record.{desk, termOf, byteOf, atomAt, questionOf, atomBytes};
-ghost use Rattle.covering.specs.Buffer.{heldIn, AtomIn, AtomsIn};
-ghost use Rattle.covering.specs.Buffer.{RoomLeft};
-ghost use Rattle.covering.specs.Record.{AtomFits};
-ghost use Rattle.covering.specs.Record.{SoundRecord};
-ghost use Rattle.forming.specs.Building.{has, added, seen, allSeen, newNumber, subOf};
-ghost use Rattle.forming.specs.Building.{NumberTable};
+ghost use Rattle.covering.specs.Record.{desk, termOf, byteOf, atomAt, questionOf, atomBytes, AtomFits, SoundRecord};
+ghost use Rattle.covering.specs.Buffer.{heldIn, AtomIn, AtomsIn, RoomLeft};
+ghost use Rattle.forming.specs.Building.{has, added, seen, allSeen, newNumber, subOf, NumberTable};
 
 // The new numbers given so far, 255 for none yet, and how many there are.
 struct Numbers {

@@ -4,8 +4,7 @@ use mathlib.Core.Path.{_≡_, refl, sym, _∙_, ap, subst}
 use mathlib.Core.Bool.{Bool, true, false}
 use mathlib.Core.Logic.{_⊎_, inl, inr}
 use mathlib.Core.List.{List, [], _∷_, _++_, List·Memᴰ·not-nil, List·Memᴰ·append-cases, List·Memᴰ·eq-of-singleton}
-use mathlib.Core.List.{Memᴰ·of-map}
-use mathlib.Core.List.{List·Memᴰ·cases-cons}
+use mathlib.Core.List.{Memᴰ·of-map, List·Memᴰ·cases-cons}
 use mathlib.Core.Option.{Option, none, some}
 use Prim.Native.Nat.{ℕ, zero, suc, _+_, _*_, _-_, _≤_, _<_}
 use native.Mathlib.Nat.{mul-le-mul-left, mul-le-mul-right, le-of-eq, pow-zero}
@@ -13,34 +12,27 @@ use native.Mathlib.Omega.{arith}
 use lib.Dec.{T, leb, leb→le}
 use lib.ListN.{length, getD, length-append}
 use Rattle.covering.specs.Lists.{_∈_, firstOf, numbers}
-use Rattle.covering.specs.Term.{Term, Atom, Question, on-term, on-atom}
-use Rattle.covering.specs.Record.{desk, atomAt, atomsAt, questionOf, isAtom, areAtoms}
-use Rattle.covering.specs.Buffer.{heldIn}
-use Rattle.covering.specs.Buffer.{RoomLeft}
-use Rattle.covering.specs.Record.{AtomFits, TermFits}
-use Rattle.covering.proofs.Padded.{held-count, held-length, held-question, held-atoms}
+use Rattle.covering.specs.Term.{Term, Atom, Question, on-term, on-atom, Below}
+use Rattle.covering.specs.Record.{desk, atomAt, atomsAt, questionOf, isAtom, areAtoms, AtomFits, TermFits}
+use Rattle.covering.specs.Buffer.{heldIn, RoomLeft}
+use Rattle.covering.proofs.Padded.{held-count, held-length, held-question, held-atoms, held-written}
 use Rattle.covering.proofs.RoundTrip.{desk-apart}
-use Rattle.covering.proofs.Places.{question-at}
+use Rattle.covering.proofs.Places.{question-at, sound-more}
 use Rattle.covering.proofs.Lengths.{count-atoms, question-count}
 use Rattle.covering.proofs.Fitting.{atom-fits}
 use Rattle.covering.proofs.Terms.{terms-out}
 use Rattle.covering.proofs.Wider.{atom-means, atom-fits-wider}
-use Rattle.covering.proofs.Padded.{held-written}
-use Rattle.covering.proofs.Places.{sound-more}
 use Rattle.book.specs.declared.Parts.{Parts}
 use Rattle.lister.specs.declared.Found.{Found}
 use Rattle.unification.specs.Choice.{count, mostChoices, atomPairs, toHead}
-use Rattle.unification.specs.Step.{up, move, Below, next}
-use Rattle.lister.specs.Build.{first}
-use Rattle.lister.specs.Build.{firstByDigit}
+use Rattle.unification.specs.Step.{up, move, next}
+use Rattle.lister.specs.Build.{first, firstByDigit, tableBuilder}
 use Rattle.unify.specs.Table.{Table, own, unifyTable}
-use Rattle.lister.specs.Build.{tableBuilder}
 use Rattle.unify.specs.InBytes.{inBook, ruleIn, classesOf}
 use Rattle.lister.specs.Asking.{ruleOf, LeftIn, RuleIn, QuestionIn, foundOf, ClassesFit, Asks}
 use Rattle.unify.proofs.Each.{below, at}
 use Rattle.lister.proofs.Table.{next-table}
-use Rattle.lister.proofs.Entries.{unify-good, atom-ends}
-use Rattle.lister.proofs.Entries.{EntriesEnd}
+use Rattle.lister.proofs.Entries.{unify-good, atom-ends, EntriesEnd}
 use Rattle.unification.proofs.Numbers.{count-suc}
 use Rattle.lister.proofs.Prefixes.{digits-hit, prefix-within, head-pairs, digit-skips}
 use Rattle.lister.proofs.RewritingBytes.{book-desk, book-apart, all-fit, rest-in}

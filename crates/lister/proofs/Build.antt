@@ -18,12 +18,11 @@ use Rattle.covering.specs.Rule.{Rule}
 use Rattle.unification.specs.Classes.{Pair, merge, unify}
 use Rattle.unification.specs.Choice.{Choice, count, number, choices, someSent, left, toHead, pairing}
 use Rattle.unification.specs.Step.{move, judge, stepApart, step, label, listed, from, next}
-use Rattle.lister.specs.Build.{Builder, byDigit, listOf, more, build, first, since, builder}
-use Rattle.lister.specs.Build.{firstByDigit}
-use Rattle.unification.proofs.Collected.{gather-same, passing, collect-same, collect-none, collect-keep}
-use Rattle.unification.proofs.Collected.{keep-collect, collect-gather, collect-map, head-gather, firstOf-same}
-use Rattle.unification.proofs.Collected.{firstOf-none}
-use Rattle.unification.proofs.Numbers.{count-suc, numbers-below}
+use Rattle.lister.specs.Build.{Builder, byDigit, listOf, more, build, first, since, builder, firstByDigit}
+use Rattle.unification.proofs.Collected.{gather-same, passing, collect-same, collect-none, collect-keep, keep-collect}
+use Rattle.unification.proofs.Collected.{collect-gather, collect-map, head-gather, firstOf-same, firstOf-none}
+use Rattle.unification.proofs.Numbers.{count-suc}
+use Rattle.covering.proofs.Lists.{numbers-below}
 
 -- the number of a choice, w being that of the digits before it
 abbrev pub numberFrom : ℕ → ℕ → Choice → ℕ

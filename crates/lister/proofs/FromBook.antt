@@ -8,12 +8,12 @@ use Prim.Native.Nat.{ℕ, _≤_, _<_}
 use native.Mathlib.Omega.{arith}
 use lib.ListN.{length, getD}
 use Rattle.covering.specs.Term.{Question}
-use Rattle.covering.specs.Record.{desk, questionOf, Fits}
-use Rattle.covering.specs.Record.{SoundRecord}
+use Rattle.covering.specs.Record.{desk, questionOf, Fits, SoundRecord}
 use Rattle.covering.proofs.Wider.{Wider}
 use Rattle.covering.proofs.Lengths.{count-atoms, question-count}
 use Rattle.covering.specs.Buffer.{heldIn}
 use Rattle.covering.proofs.Padded.{held-sound, held-written}
+use Rattle.reading.proofs.Reading.{rule-is}
 use Rattle.reading.proofs.Fits.{question-record}
 use Rattle.lister.proofs.RewritingBytes.{book-desk, book-apart}
 use Rattle.book.specs.declared.Parts.{Parts}
@@ -21,8 +21,7 @@ use Rattle.reading.specs.Header.{rules, atoms}
 use Rattle.reading.specs.Book.{ruleAt, ruleStart, bookOf, layoutOf}
 use Rattle.reading.specs.Verdict.{SoundBook}
 use Rattle.book.specs.Parts.{partsAt}
-use Rattle.reading.proofs.SoundBook.{sound-header, sound-rule, sound-question, sound-body, sound-head}
-use Rattle.reading.proofs.SoundBook.{BookRoom}
+use Rattle.reading.proofs.SoundBook.{sound-header, sound-rule, sound-question, sound-body, sound-head, BookRoom}
 use Rattle.lister.specs.declared.Found.{Found}
 use Rattle.unification.specs.Choice.{mostChoices}
 use Rattle.unification.specs.Step.{next}
@@ -87,9 +86,9 @@ module _ (B : List ℕ) (s : SoundBook B) where
   question-in R e = subst QuestionIn (sym e) (held-in (bookOf B .question) (question-record B inBook room s (omega arith)))
 
 -- the rule that `next` is asked about is the book's
-pub rule-is : (B : List ℕ) (s : ℕ) → ruleOf B (partsAt B s) ≡ ruleAt B s
-unfolding ruleIn ruleAt
-rule-is B s = refl
+pub rule-asked : (B : List ℕ) (s : ℕ) → ruleOf B (partsAt B s) ≡ ruleAt B s
+unfolding ruleIn
+rule-asked B s = sym (rule-is B s)
 
 module _ (Q B : List ℕ) (p : Parts) (q : QuestionIn Q) (r : RuleIn B p) (from : ℕ) where
   heads : length (ruleOf B p .head) ≡ p .heads

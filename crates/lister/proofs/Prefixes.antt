@@ -14,14 +14,12 @@ use Rattle.covering.specs.Lists.{bind, firstOf, numbers}
 use Rattle.covering.specs.Form.{form}
 use Rattle.covering.specs.Term.{Atom, Question, Sub, on-atom, on-question}
 use Rattle.covering.specs.Record.{Layout, size, atomAt, atomsAt}
-use Rattle.covering.proofs.Places.{atoms-none, atoms-more}
+use Rattle.covering.proofs.Places.{atoms-none, atoms-more, atoms-step}
 use Rattle.covering.specs.Rule.{Rule}
 use Rattle.unification.specs.Choice.{count, atomPairs, toHead}
 use Rattle.unification.specs.Step.{up, move, valid, rewriting, judge}
-use Rattle.lister.specs.Build.{first, more, since}
-use Rattle.lister.specs.Build.{firstByDigit}
+use Rattle.lister.specs.Build.{first, more, since, firstByDigit, tableBuilder}
 use Rattle.unify.specs.Table.{Table, unifyTable, tabled}
-use Rattle.lister.specs.Build.{tableBuilder}
 use Rattle.lister.proofs.Build.{first-whole, first-digits}
 use Rattle.unification.proofs.Numbers.{count-suc}
 use Rattle.lister.proofs.Table.{table-skips}
@@ -50,14 +48,16 @@ prefix-within h w d m le =
 -- the head atom after the first e, in the book
 pub head-pairs : (k : ℕ) (L : Layout) (B : List ℕ) (d h e : ℕ) (a : Atom) → e < h
     → toHead (on-question (up k) (atomsAt L B d h)) e a ≡ atomPairs a (on-atom (up k) (atomAt L B (d + e * size L)))
-unfolding atomsAt
 head-pairs k L B d zero e a lt = absurd (omega arith)
-head-pairs k L B d (suc h) zero a lt = ap (λ n. atomPairs a (on-atom (up k) (atomAt L B n))) (here d (size L))
+head-pairs k L B d (suc h) zero a lt =
+    ap (λ (A : Question). toHead (on-question (up k) A) zero a) (atoms-step L B d h)
+    ∙ ap (λ n. atomPairs a (on-atom (up k) (atomAt L B n))) (here d (size L))
   where
     here : (d s : ℕ) → d ≡ d + 0 * s
     here d s = omega arith
 head-pairs k L B d (suc h) (suc e) a lt =
-    head-pairs k L B (d + size L) h e a (omega arith)
+    ap (λ (A : Question). toHead (on-question (up k) A) (suc e) a) (atoms-step L B d h)
+    ∙ head-pairs k L B (d + size L) h e a (omega arith)
     ∙ ap (λ n. atomPairs a (on-atom (up k) (atomAt L B n))) (next d e (size L))
   where
     next : (d e s : ℕ) → d + s + e * s ≡ d + suc e * s

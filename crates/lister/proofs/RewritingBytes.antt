@@ -13,23 +13,20 @@ use lib.ListN.{length, getD, set, length-map, length-append, length-set}
 use lib.Seq.{getD-set-same, getD-set-other}
 use Rattle.covering.specs.Lists.{_∈_}
 use Rattle.covering.specs.Term.{Term, var, con, Atom, Question, Sub, on-term, on-atom, on-question, comp}
-use Rattle.covering.specs.Record.{desk, size, termOf, atomAt, atomsAt, questionOf, areAtoms}
-use Rattle.covering.specs.Buffer.{heldIn, AtomIn, AtomsIn}
-use Rattle.covering.specs.Buffer.{RoomLeft}
-use Rattle.covering.specs.Record.{TermFits, AtomFits}
+use Rattle.covering.specs.Record.{desk, size, termOf, atomAt, atomsAt, questionOf, areAtoms, TermFits, AtomFits}
 use Rattle.covering.specs.Record.{SoundRecord}
+use Rattle.covering.specs.Buffer.{heldIn, AtomIn, AtomsIn, RoomLeft}
 use Rattle.forming.specs.Building.{subOf}
 use Rattle.covering.proofs.Lists.{map-same, map-append}
 use Rattle.covering.proofs.Tests.{either}
 use Rattle.covering.proofs.Terms.{on-atom-comp, on-atom-same}
-use Rattle.covering.proofs.Places.{atoms-none, atoms-more, sound-more}
-use Rattle.covering.proofs.RoundTrip.{TellsApart}
+use Rattle.covering.proofs.Places.{atoms-none, atoms-more, sound-more, question-at}
+use Rattle.covering.proofs.RoundTrip.{TellsApart, desk-apart}
 use Rattle.covering.proofs.Padded.{held-count, held-question, held-atoms, held-sound}
-use Rattle.covering.proofs.RoundTrip.{desk-apart}
-use Rattle.covering.proofs.Places.{question-at}
 use Rattle.covering.proofs.Lengths.{count-atoms, question-count}
 use Rattle.covering.proofs.Fitting.{atom-fits, atoms-fit}
 use Rattle.forming.proofs.Growing.{Grows, grows-question, grows-room, grows-put}
+use Rattle.forming.proofs.AtomBytes.{table-at}
 use Rattle.covering.proofs.Wider.{Wider, atom-means, atoms-mean}
 use Rattle.covering.proofs.Within.{in-wider}
 use Rattle.book.specs.declared.Parts.{Parts}
@@ -72,8 +69,8 @@ module _ (table : List ℕ) (fit : ClassesFit table) (long : length table ≡ 64
   in-classes (x ∷ m) (suc n) h = List·Memᴰ·tail (in-classes m n (omega arith))
 
   sub-fits : (n : ℕ) → n < 64 → TermFits desk (subOf table n)
-  unfolding subOf
-  sub-fits n h = fit (termOf (getD table n 0)) (in-classes table n (omega arith))
+  sub-fits n h =
+      subst (TermFits desk) (sym (table-at table n)) (fit (termOf (getD table n 0)) (in-classes table n (omega arith)))
 
   term-on : (t : Term) → TermFits inBook t → TermFits desk (on-term (subOf table) t)
   term-on (var n) h = sub-fits n (omega arith)
@@ -280,7 +277,7 @@ module _ (left book table upper : List ℕ) (p : Parts) (li : LeftIn left) (few 
             (rw whole-count (omega (arith, ru .few-body))))
 
         pub whole-question : questionOf desk R₂ ≡ rewriting (tabled (classesOf table)) (questionOf desk left) (move 32 (ruleOf book p))
-        unfolding ruleIn subOf
+        unfolding ruleIn
         whole-question =
             ap (questionOf desk) whole-bytes
             ∙ held-question desk 56 (L′ ++ B′) desk-apart whole-fit
@@ -302,7 +299,7 @@ module _ (left book table upper : List ℕ) (p : Parts) (li : LeftIn left) (few 
                 on-question-same (subOf table) σ _ (all-fit left 1 (getD left 0 0) (li .atoms)) (λ n h. lower n (omega arith))
               where
                 lower : (n : ℕ) → n < 64 → subOf table n ≡ σ n
-                lower n h = at n h
+                lower n h = table-at table n ∙ at n h
 
             of-body : B′ ≡ on-question σ (on-question (up 32) body)
             of-body =
@@ -311,4 +308,4 @@ module _ (left book table upper : List ℕ) (p : Parts) (li : LeftIn left) (few 
                 ∙ sym (map-map (on-atom σ) (on-atom (up 32)) body)
               where
                 higher : (n : ℕ) → n < 32 → subOf upper n ≡ σ (32 + n)
-                higher n h = ap termOf (uh .moved n h) ∙ at (n + 32) (omega arith) ∙ ap σ (omega arith)
+                higher n h = table-at upper n ∙ ap termOf (uh .moved n h) ∙ at (n + 32) (omega arith) ∙ ap σ (omega arith)

@@ -11,16 +11,14 @@ use native.Mathlib.Omega.{arith}
 use lib.Dec.{eqb}
 use lib.ListN.{length, length-map, getD}
 use Rattle.covering.specs.Lists.{_∈_, bind, firstOf, numbers}
-use Rattle.covering.specs.Term.{Term, Atom, Question, terms, Sub, on-term, var, con}
+use Rattle.covering.specs.Term.{Term, Atom, Question, terms, Sub, on-term, var, con, Below}
 use Rattle.covering.proofs.Terms.{terms-in, terms-out}
 use Rattle.covering.specs.Rule.{Rule}
 use Rattle.unification.specs.Classes.{Pair, point, join, unify}
 use Rattle.unification.specs.Choice.{count, never, placePairs, toHead}
-use Rattle.unification.specs.Step.{move, Below, guarded, judge, next}
+use Rattle.unification.specs.Step.{move, guarded, judge, next}
 use Rattle.unify.specs.Table.{Table, own, look, tabled, joinTable, unifyTable}
-use Rattle.lister.specs.Build.{tableBuilder}
-use Rattle.lister.specs.Build.{Builder, more, first, since, builder}
-use Rattle.lister.specs.Build.{firstByDigit}
+use Rattle.lister.specs.Build.{tableBuilder, Builder, more, first, since, builder, firstByDigit}
 use Rattle.lister.proofs.Build.{first-whole, first-digits, first-skips, since-early, next-built}
 use Rattle.unification.proofs.Collected.{firstOf-same}
 use Rattle.unification.proofs.Moved.{moved-below}

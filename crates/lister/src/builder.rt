@@ -15,10 +15,8 @@ ghost use Prim.Native.Nat.{_+_, _*_, _-_, _≤_, _<_};
 ghost use lib.ListN.{getD};
 ghost use Rattle.covering.specs.Record.{desk, atomAt, atomsAt, questionOf};
 ghost use Rattle.unification.specs.Step.{move, judge, next as nextOf};
-ghost use Rattle.lister.specs.Build.{first, since};
-ghost use Rattle.lister.specs.Build.{firstByDigit};
+ghost use Rattle.lister.specs.Build.{first, since, firstByDigit, tableBuilder};
 ghost use Rattle.unify.specs.Table.{tabled};
-ghost use Rattle.lister.specs.Build.{tableBuilder};
 ghost use Rattle.unify.specs.InBytes.{classesOf};
 ghost use Rattle.lister.specs.Asking.{ruleOf, RuleIn, QuestionIn, LeftIn, ClassesFit, Asks, foundOf};
 

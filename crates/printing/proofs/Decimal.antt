@@ -10,8 +10,7 @@ use borrow.Author.Tests.{lt-ltb, le-ltb}
 use lib.Dec.{ltb}
 use lib.ListN.{length, getD, length-append, List·getD-append}
 use Rattle.covering.proofs.Tests.{le-or-lt}
-use Rattle.printing.specs.Printed.{decimal}
-use Rattle.printing.specs.Printed.{figure, figures}
+use Rattle.printing.specs.Printed.{decimal, figure, figures}
 
 abbrev more : ℕ → ℕ → List ℕ
 more most n = figures most (n / 10) ++ figure (n % 10) ∷ []

@@ -11,8 +11,7 @@ use Rattle.reading.specs.Verdict.{wrongInAtoms, wrongInRules, wrongByte, conten
 use Rattle.unification.specs.Step.{step, listed, rewritings}
 use Rattle.exploration.specs.Run.{admit, through, exploring, runBy, run}
 use Rattle.exploration.specs.Answer.{result}
-use Rattle.printing.specs.Printed.{decimal, termText, atomText, memberLine, line}
-use Rattle.printing.specs.Printed.{figures}
+use Rattle.printing.specs.Printed.{decimal, termText, atomText, memberLine, line, figures}
 use Rattle.printing.specs.Answer.{linesOf}
 use Rattle.printing.specs.Examples.{shown, examples}
 

@@ -1,28 +1,24 @@
 -- Laws of what is printed of terms, atoms and members that stand in bytes: what is put first and what after it, and
 -- what is known of the bytes after it. Assumes nothing.
 use mathlib.Core.Path.{_≡_, refl, sym, _∙_, ap, ap₂, subst}
-use mathlib.Core.Bool.{Bool, cond, _&&_}
+use mathlib.Core.Bool.{Bool, cond}
 use mathlib.Core.List.{List, [], _∷_, _++_}
-use Prim.Native.Nat.{ℕ, suc, _+_, _*_, _-_, _≤_, _<_}
+use Prim.Native.Nat.{ℕ, suc, _+_, _-_, _≤_, _<_}
 use native.Mathlib.Omega.{arith}
 use borrow.Author.Tests.{eq-eqb, ne-eqb}
-use lib.Dec.{T, ltb}
-use lib.ListN.{length, getD, take, drop, length-append, length-drop}
-use lib.Seq.{getD-drop}
+use lib.Dec.{T}
+use lib.ListN.{length, getD, take, drop, length-append}
 use Rattle.covering.specs.Lists.{gather}
 use Rattle.covering.specs.Term.{Term, var, con, Question}
-use Rattle.covering.specs.Record.{desk, termOf, argsAt, atomAt, atomsAt, questionOf, isTerm, usedFirst, isAtom}
-use Rattle.covering.specs.Record.{SoundRecord}
-use Rattle.covering.proofs.Tests.{fst-of, snd-of}
-use Rattle.covering.proofs.Bytes.{term-var, term-con}
-use Rattle.covering.proofs.Places.{args-none, args-step, relation-at, args-at, question-at}
-use Rattle.covering.proofs.Places.{atoms-none, atoms-more}
+use Rattle.covering.specs.Record.{desk, termOf, argsAt, atomAt, atomsAt, questionOf, isAtom, SoundRecord}
+use Rattle.covering.proofs.Bytes.{term-var, term-con, atom-first}
+use Rattle.covering.proofs.Places.{args-none, args-step, relation-at, args-at, question-at, atoms-none, atoms-more}
 use Rattle.covering.proofs.Fitting.{term-is-used}
 use Rattle.covering.proofs.RoundTrip.{desk-apart}
-use Rattle.reading.specs.Word.{byte}
 use Rattle.exploration.specs.Union.{membersFrom, memberEnd}
 use Rattle.exploration.specs.Standing.{Standing}
-use Rattle.exploration.proofs.Members.{question-from}
+use Rattle.exploration.proofs.Members.{members-none, members-step}
+use Rattle.exploration.proofs.Standing.{Here, stands-here}
 use Rattle.covering.proofs.Slices.{part-is}
 use Rattle.printing.specs.Printed.{ascii, decimal, marked, joined, termText, atomText, memberLine, line}
 
@@ -108,12 +104,7 @@ module _ (a : List ℕ) (m : ℕ) (b : List ℕ) (n : ℕ) where
 -- an atom
 module _ (B : List ℕ) (i : ℕ) where
   first-used : T (isAtom desk B i) → getD B (i + 1) 0 ≡ 255 → ⊥
-  unfolding isAtom
-  first-used s =
-      let places = usedFirst desk B (i + 1) 4 in
-      let first = isTerm desk (getD B (i + 1) 0) in
-      let both = snd-of (ltb (getD B i 0) 64) (first && places) s in
-      term-is-used desk desk-apart (getD B (i + 1) 0) (fst-of first places both)
+  first-used s = term-is-used desk desk-apart (getD B (i + 1) 0) (atom-first desk B i s)
 
   atom-is : atomText (atomAt desk B i)
       ≡ ascii "r"
@@ -205,17 +196,19 @@ part W i = take (length W - i) (drop i W)
 
 module _ (W : List ℕ) (i n : ℕ) where
   pub members-end : n ≡ 0 → gather memberLine (membersFrom W i n) ≡ []
-  unfolding membersFrom
-  members-end e = ap (λ (k : ℕ). gather memberLine (membersFrom W i k)) e
+  members-end e = ap (λ (k : ℕ). gather memberLine (membersFrom W i k)) e ∙ ap (gather memberLine) (members-none W i 0 0 refl-le)
+    where
+      refl-le : 0 ≤ 0
+      refl-le = omega arith
 
   pub members-next : 0 < n
       → gather memberLine (membersFrom W i n)
       ≡ memberLine (questionOf desk (part W i)) ++ gather memberLine (membersFrom W (memberEnd W i) (n - 1))
-  unfolding membersFrom
   members-next h =
       ap (λ (k : ℕ). gather memberLine (membersFrom W i k)) (less-one n h)
-      ∙ ap (λ (M : Question). memberLine M ++ gather memberLine (membersFrom W (memberEnd W i) (n - 1)))
-      (sym (ap (questionOf desk) (part-is W i) ∙ question-from W i))
+      ∙ ap (gather memberLine) (members-step W i (n - 1))
+      ∙ ap (λ (B : List ℕ). memberLine (questionOf desk B) ++ gather memberLine (membersFrom W (memberEnd W i) (n - 1)))
+      (sym (part-is W i))
 
   pub members-length : 0 < n
       → length (gather memberLine (membersFrom W i n))
@@ -227,20 +220,15 @@ module _ (W : List ℕ) (i n : ℕ) where
       (gather memberLine (membersFrom W (memberEnd W i) (n - 1)))
 
   module _ (h : 0 < n) (s : Standing W i n) where
-    both : SoundRecord desk (drop i W) × Standing W (memberEnd W i) (n - 1)
-    unfolding Standing
-    both = subst (Standing W i) (less-one n h) s
+    here : Here W i (n - 1)
+    here = stands-here W i (n - 1) (subst (Standing W i) (less-one n h) s)
 
     pub stands-first : SoundRecord desk (part W i)
-    stands-first = subst (SoundRecord desk) (sym (part-is W i)) (both .0)
+    stands-first = subst (SoundRecord desk) (sym (part-is W i)) (here .sound)
 
     pub stands-rest : Standing W (memberEnd W i) (n - 1)
-    stands-rest = both .1
+    stands-rest = here .rest
 
     -- the first member is within the bytes
-    pub stands-within : i + 1 + byte W i * 5 ≤ length W
-    stands-within =
-        omega (arith, both .0 .fits, length-drop i W, getD-drop i W 0 0 ∙ ap (λ (k : ℕ). getD W k 0) zeroth)
-      where
-        zeroth : i + 0 ≡ i
-        zeroth = omega arith
+    pub stands-within : memberEnd W i ≤ length W
+    stands-within = here .within

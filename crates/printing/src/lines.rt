@@ -3,8 +3,7 @@ ghost use Prim.Native.Nat.{_+_, _*_, _≤_};
 ghost use lib.Dec.{T};
 ghost use lib.ListN.{length};
 ghost use Rattle.covering.specs.Lists.{gather};
-ghost use Rattle.covering.specs.Record.{desk, argsAt, atomAt, atomsAt, questionOf, isAtom, areAtoms};
-ghost use Rattle.covering.specs.Record.{SoundRecord};
+ghost use Rattle.covering.specs.Record.{desk, argsAt, atomAt, atomsAt, questionOf, isAtom, areAtoms, SoundRecord};
 ghost use Rattle.exploration.specs.Union.{membersFrom};
 ghost use Rattle.exploration.specs.Standing.{Standing};
 ghost use Rattle.printing.specs.Printed.{ascii, marked, termText, atomText, memberLine, line};
@@ -131,7 +130,7 @@ pub fn put_members(text: &mut [u8], at: usize, output: &[u8], i: usize, n: usize
     if n == 0 {
         return at;
     }
-    let next = i + 1 + (output[i] as usize) * 5;
+    let next = i + cover::width(output[i]);
     let member = &output[i..];
     let end = put_member(text, at, member);
     put_members(text, end, output, next, n - 1)

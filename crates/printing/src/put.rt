@@ -3,8 +3,7 @@ ghost use Prim.Native.Nat.{_+_, _≤_, _<_};
 ghost use mathlib.Core.List.{[], _∷_};
 ghost use lib.ListN.{length};
 ghost use Rattle.covering.specs.Record.{termOf};
-ghost use Rattle.printing.specs.Printed.{decimal, termText};
-ghost use Rattle.printing.specs.Printed.{figure};
+ghost use Rattle.printing.specs.Printed.{decimal, termText, figure};
 ghost use Rattle.printing.specs.Put.{Pastes};
 
 // Puts the bytes.

@@ -12,8 +12,7 @@ use lib.ListN.{length}
 use Rattle.covering.proofs.Tests.{decide, clash, both, fst-of, snd-of, none≢some, le-or-lt}
 use Rattle.reading.specs.Word.{byte}
 use Rattle.reading.specs.Header.{headerSize, relations, constants, rules, atoms, allowed, relationsAt, rulesAt}
-use Rattle.reading.specs.Header.{questionAt, headerOf, Range, Outside, inside, relationsRange}
-use Rattle.reading.specs.Header.{totalWord}
+use Rattle.reading.specs.Header.{questionAt, headerOf, Range, Outside, inside, relationsRange, totalWord}
 use Rattle.reading.specs.Header.{constantsRange, rulesRange, atomsRange, allowedRange, placesRange, bodyRange}
 use Rattle.reading.specs.Header.{headRange, atomSize}
 use Rattle.reading.specs.Book.{bodyCount, headCount, bodyAt, ruleEnd, after, rulesStart, ruleStart}

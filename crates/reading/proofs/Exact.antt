@@ -12,8 +12,7 @@ use Rattle.reading.specs.declared.Refusal.{Refusal}
 use Rattle.reading.specs.Header.{headerSize, relations, rules, questionAt, headerOf}
 use Rattle.reading.specs.Book.{rulesStart, ruleStart}
 use Rattle.reading.specs.Refusals.{Short, OutsideTable, OffsetWrong, PlacesWrong, RuleWrong, ByteWrong}
-use Rattle.reading.specs.Refusals.{ApplicableToBook}
-use Rattle.reading.specs.Refusals.{two, three, four, five, six, seven}
+use Rattle.reading.specs.Refusals.{ApplicableToBook, two, three, four, five, six, seven}
 use Rattle.reading.specs.Verdict.{accepted, NoLater, IsVerdict, sound, refused, unless, inTable, offsetsRight}
 use Rattle.reading.specs.Verdict.{wrongPlaces, wrongRule, wrongByte, refuse, contents, verdict}
 use Rattle.reading.proofs.Earliest.{Earliest, nowhere, first, earliest-same, here-or-later}

@@ -22,9 +22,8 @@ use Rattle.reading.specs.Header.{constants, rules, atoms, questionAt, co
 use Rattle.reading.specs.Book.{bodyCount, ruleAt, ruleStart, rulesStart, placesOf, bookOf}
 use Rattle.reading.specs.Refusals.{usedAllowed}
 use Rattle.reading.specs.Verdict.{SoundBook}
-use Rattle.reading.proofs.SoundBook.{AtomRight, used-place, unused-place, right-places}
-use Rattle.reading.proofs.SoundBook.{BookRoom}
-use Rattle.reading.proofs.SoundBook.{sound-rule, sound-question, sound-header}
+use Rattle.reading.proofs.SoundBook.{AtomRight, used-place, unused-place, right-places, BookRoom, sound-rule}
+use Rattle.reading.proofs.SoundBook.{sound-question, sound-header}
 use Rattle.reading.proofs.Reading.{book-rules, book-question, book-allowed, rule-body, rule-head, rule-from}
 
 -- where a rule of the book starts

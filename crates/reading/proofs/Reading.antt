@@ -10,7 +10,7 @@ use Rattle.covering.specs.Lists.{_∈_}
 use Rattle.covering.specs.Record.{desk, atomsAt}
 use Rattle.covering.specs.Rule.{Rule}
 use Rattle.reading.specs.Word.{byte, word}
-use Rattle.reading.specs.Header.{constants, rules, atoms, allowed, questionAt}
+use Rattle.reading.specs.Header.{rules, atoms, allowed, questionAt}
 use Rattle.reading.specs.Book.{bodyCount, headCount, bodyAt, headAt, ruleEnd, ruleAt, rulesFrom, after}
 use Rattle.reading.specs.Book.{rulesStart, ruleStart, bookOf}
 use Rattle.reading.proofs.After.{after-next}
@@ -35,11 +35,13 @@ module _ (B : List ℕ) where
   unfolding bookOf
   book-allowed = refl
 
-  pub book-constants : bookOf B .constants ≡ constants B
-  unfolding bookOf
-  book-constants = refl
-
   -- a rule's body and head, and where they stand
+  pub rule-is : (s : ℕ)
+      → ruleAt B s
+      ≡ record { body = atomsAt desk B (bodyAt B s) (bodyCount B s); head = atomsAt desk B (headAt B s) (headCount B s) }
+  unfolding ruleAt
+  rule-is s = refl
+
   pub rule-body : (s : ℕ) → ruleAt B s .body ≡ atomsAt desk B (bodyAt B s) (bodyCount B s)
   unfolding ruleAt
   rule-body s = refl

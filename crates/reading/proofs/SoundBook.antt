@@ -20,11 +20,9 @@ use Rattle.reading.specs.Header.{inside, constantsRange, atomsRange, pla
 use Rattle.reading.specs.Header.{atomPlaces, variables}
 use Rattle.reading.specs.Book.{bodyCount, headCount, bodyAt, headAt, ruleEnd, rulesStart, ruleStart, placesOf}
 use Rattle.reading.specs.Book.{layoutOf}
-use Rattle.reading.specs.Refusals.{usedAllowed, placeAllowed, AtomWrong, relation, place}
-use Rattle.reading.specs.Refusals.{ApplicableToBook}
+use Rattle.reading.specs.Refusals.{usedAllowed, placeAllowed, AtomWrong, relation, place, ApplicableToBook}
 use Rattle.reading.specs.Verdict.{IsVerdict, sound, refused, unless, inTable, offsetsRight, wrongPlaces}
-use Rattle.reading.specs.Verdict.{wrongRule}
-use Rattle.reading.specs.Verdict.{wrongInAtoms, wrongInRules, wrongByte, refuse, contents, verdict}
+use Rattle.reading.specs.Verdict.{wrongRule, wrongInAtoms, wrongInRules, wrongByte, refuse, contents, verdict}
 use Rattle.reading.specs.Verdict.{SoundBook}
 use Rattle.reading.proofs.Earliest.{Earliest, holds-nowhere}
 use Rattle.reading.proofs.Found.{PlacesFrom, places-earliest, AtomsFrom, atoms-earliest, RuleBytes}

@@ -8,8 +8,7 @@ use lib.Dec.{T, eqb, ltb, leb}
 use lib.ListN.{length}
 use Rattle.reading.specs.Word.{byte}
 use Rattle.reading.specs.Header.{headerSize, relations, constants, rules, atoms, allowed, relationsAt, rulesAt}
-use Rattle.reading.specs.Header.{questionAt, Outside, relationsRange, constantsRange, rulesRange}
-use Rattle.reading.specs.Header.{totalWord}
+use Rattle.reading.specs.Header.{questionAt, Outside, relationsRange, constantsRange, rulesRange, totalWord}
 use Rattle.reading.specs.Header.{atomsRange, allowedRange, placesRange, bodyRange, headRange, atomSize}
 use Rattle.reading.specs.Header.{atomPlaces, variables}
 use Rattle.reading.specs.Book.{bodyCount, headCount, bodyAt, headAt, ruleEnd, ruleStart, placesOf}

@@ -17,8 +17,7 @@ use Rattle.reading.specs.Header.{headerSize, relations, constants, rules
 use Rattle.reading.specs.Header.{relationsRange, constantsRange, rulesRange, atomsRange, allowedRange}
 use Rattle.reading.specs.Header.{placesRange, bodyRange, headRange, atomSize, atomPlaces}
 use Rattle.reading.specs.Book.{bodyCount, headCount, bodyAt, ruleEnd, rulesStart, placesOf}
-use Rattle.reading.specs.Refusals.{placeAllowed}
-use Rattle.reading.specs.Refusals.{ApplicableToBook}
+use Rattle.reading.specs.Refusals.{placeAllowed, ApplicableToBook}
 
 -- "0 means complete"; of the book alone, that nothing is wrong with it
 abbrev pub accepted : Refusal

@@ -13,8 +13,7 @@ use Rattle.covering.specs.Covers.{Sends}
 use Rattle.covering.specs.Lists.{_∈_, numbers}
 use Rattle.covering.specs.Term.{Term, Atom, Question, terms, Sub, on-atom, on-question}
 use Rattle.covering.proofs.Terms.{terms-in, terms-out}
-use Rattle.unification.specs.Classes.{Kernel}
-use Rattle.unification.specs.Classes.{HoldsPairs}
+use Rattle.unification.specs.Classes.{Kernel, HoldsPairs}
 use Rattle.unification.specs.Choice.{Choice, choices, someSent, left, sent, toHead, pairing}
 use Rattle.unification.proofs.Collected.{gather-in, numbers-in}
 use Rattle.unification.proofs.Pairs.{atom-holds, holds-append}

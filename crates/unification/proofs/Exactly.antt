@@ -14,21 +14,20 @@ use lib.Dec.{T}
 use lib.ListN.{length, getElem?, length-map}
 use Rattle.covering.specs.Form.{form}
 use Rattle.covering.specs.Lists.{_∈_, Distinct}
-use Rattle.covering.specs.Term.{Term, Atom, Question, terms, Sub, on-term, on-atom, on-question, var}
+use Rattle.covering.specs.Term.{Term, Atom, Question, terms, Sub, on-term, on-atom, on-question, var, Below}
 use Rattle.covering.proofs.Form.{form-distinct}
 use Rattle.covering.proofs.Tests.{decide}
 use Rattle.covering.proofs.SameForm.{form-same}
 use Rattle.covering.specs.Rule.{Rule}
-use Rattle.unification.specs.Classes.{unify, Kernel}
-use Rattle.unification.specs.Classes.{HoldsPairs}
+use Rattle.unification.specs.Classes.{unify, Kernel, HoldsPairs}
 use Rattle.unification.specs.Choice.{Choice, number, choices, Ascending, left, sent, toHead, pairing}
-use Rattle.unification.specs.Step.{up, move, Below, memTerm, listed}
+use Rattle.unification.specs.Step.{up, move, memTerm, listed}
 use Rattle.unification.specs.Published.{without, scope, PieceUnifier, Puts, digits, Publishes}
 use Rattle.unification.proofs.Classes.{Least, unify-least, unify-sound, kernel-admissible}
 use Rattle.unification.proofs.Digits.{some-sent, digits-leave, digits-send, digits-among, digits-hold, digits-held}
 use Rattle.unification.proofs.Hits.{placeOf, digits-back}
 use Rattle.unification.proofs.Listed.{Made, listed-out, listed-in}
-use Rattle.unification.proofs.Numbers.{choice-length, listed-ascending, ascending-same, ascending-one}
+use Rattle.unification.proofs.Numbers.{choice-length, listed-ascending, ascending-same}
 use Rattle.unification.proofs.Pairs.{memTerm→mem}
 use Rattle.unification.proofs.Pieces.{selected-out, valid-below}
 use Rattle.unification.proofs.Puts.{puts-more, puts-hold, hold-puts, at-head, head-at, at-small}
@@ -167,11 +166,3 @@ exactly-this-list k r Q below e l a extra missing =
     ascending-same l (listed k r Q) a (listed-ascending k r Q)
     (λ x m. exactly k r Q below e (x .0) (x .1) .1 (extra (x .0) (x .1) m))
     (λ x m. missing (x .0) (x .1) (exactly k r Q below e (x .0) (x .1) .0 m))
-
--- One number, one rewriting: a pairing's digits settle what its unifier's rewriting is in form.
-pub exactly-one : (k : ℕ) (r : Rule) (Q : Question) → Below k Q → (n : ℕ) (X Y : Question) → Publishes k r Q n X
-    → Publishes k r Q n Y → X ≡ Y
-exactly-one k r Q below n X Y p q =
-    ap (λ (e : ℕ × Question). e .1)
-    (ascending-one (listed k r Q) (listed-ascending k r Q) (n, X) (n, Y)
-    (listed-in (none-missing below p)) (listed-in (none-missing below q)) refl)

@@ -127,11 +127,6 @@ next-listed k r Q n e q =
     keep-out (λ (f : ℕ × Question). leb n (f .0)) (listed k r Q) (head-in (from n (listed k r Q)) e q) in
     (m .0, leb→le n (e .0) (m .1))
 
--- and each listed rewriting is found at its own number
-pub next-here : (k : ℕ) (r : Rule) (Q : Question) (e : ℕ × Question) → e ∈ listed k r Q → next k r Q (e .0) ≡ some e
-unfolding next
-next-here k r Q e m = from-here (listed k r Q) (listed-ascending k r Q) e m
-
 -- each number listed is below the count of choices, (h + 1)^n
 pub listed-below : (k : ℕ) (r : Rule) (Q : Question) (n : ℕ) (X : Question) → (n, X) ∈ listed k r Q
     → n < count (length (r .head)) (length Q)

@@ -16,8 +16,7 @@ use Rattle.covering.specs.Term.{Term, Atom, Question, Sub, eqAtom}
 use Rattle.covering.proofs.Lists.{keep-all, keep-same, map-same}
 use Rattle.covering.proofs.Tests.{not-of, no→false, none≢some, cond-yes, cond-no}
 use Rattle.covering.proofs.Terms.{eqAtom→eq, eqAtom-refl}
-use Rattle.unification.specs.Classes.{Kernel, Equivalence}
-use Rattle.unification.specs.Classes.{HoldsPairs}
+use Rattle.unification.specs.Classes.{Kernel, Equivalence, HoldsPairs}
 use Rattle.unification.specs.Choice.{Choice, left, sent, toHead, pairing}
 use Rattle.unification.specs.Published.{memAtom, without, Puts, digits}
 use Rattle.unification.proofs.Choices.{sent-in}

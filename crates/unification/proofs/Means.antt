@@ -8,13 +8,12 @@ use mathlib.Core.Option.{some}
 use Prim.Native.Nat.{ℕ, zero, suc}
 use lib.Dec.{T}
 use Rattle.covering.specs.Lists.{_∈_}
-use Rattle.covering.specs.Term.{Term, Atom, Question, terms, Sub, on-term, var, con}
+use Rattle.covering.specs.Term.{Term, Atom, Question, terms, Sub, on-term, var, con, Below}
 use Rattle.covering.proofs.Terms.{var≢con}
 use Rattle.covering.specs.Rule.{Rule, Unknown}
-use Rattle.unification.specs.Classes.{Pair, unify, Kernel, Equivalence}
-use Rattle.unification.specs.Classes.{HoldsPairs}
+use Rattle.unification.specs.Classes.{Pair, unify, Kernel, Equivalence, HoldsPairs}
 use Rattle.unification.specs.Choice.{Choice, left, placePairs, toHead, pairing}
-use Rattle.unification.specs.Step.{move, Below, guarded, valid}
+use Rattle.unification.specs.Step.{move, guarded, valid}
 use Rattle.unification.proofs.Classes.{unify-sound, least-equivalence, idempotent}
 use Rattle.unification.proofs.Moved.{moved-apart}
 use Rattle.unification.proofs.Pairs.{no-clash}

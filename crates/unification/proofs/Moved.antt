@@ -7,12 +7,12 @@ use Prim.Native.Nat.{ℕ, _+_, _-_, _<_}
 use native.Mathlib.Omega.{arith}
 use lib.Dec.{ltb, lt→ltb, ltb→lt}
 use Rattle.covering.specs.Lists.{_∈_}
-use Rattle.covering.specs.Term.{Term, Atom, Question, terms, Sub, on-term, on-atom, on-question, comp, var, con}
+use Rattle.covering.specs.Term.{Term, Atom, Question, terms, Sub, on-term, on-atom, on-question, comp, var, con, Below}
 use Rattle.covering.proofs.Lists.{map-same}
 use Rattle.covering.proofs.Tests.{not-of, cond-yes, cond-no}
 use Rattle.covering.proofs.Terms.{var-inj, var≢con, on-term-comp, on-atom-same, on-atom-comp, terms-on}
 use Rattle.covering.specs.Rule.{Rule, Unknown}
-use Rattle.unification.specs.Step.{up, move, Below}
+use Rattle.unification.specs.Step.{up, move}
 use Rattle.unification.specs.Apply.{Fresh, Applies}
 
 -- where the terms of what is moved come from

@@ -10,10 +10,10 @@ use mathlib.Core.Option.{Option, some, Option·some-injective, none}
 use Prim.Native.Nat.{ℕ, zero, suc, _+_, _<_, _≤_, _*_}
 use native.Mathlib.Nat.{suc-mul, zero-mul, pow-succ', pow-zero}
 use native.Mathlib.Omega.{arith}
-use lib.ListN.{length, getElem?, length-map}
+use lib.ListN.{length, getElem?}
 use Rattle.covering.specs.Lists.{_∈_, keep, push, collect, gather, numbers}
 use Rattle.covering.specs.Term.{Question}
-use Rattle.covering.proofs.Lists.{keep-out, map-same}
+use Rattle.covering.proofs.Lists.{keep-out, map-same, numbers-below}
 use Rattle.covering.proofs.Tests.{none≢some}
 use Rattle.covering.specs.Rule.{Rule}
 use Rattle.unification.specs.Choice.{Choice, count, number, choices, Ascending, someSent}
@@ -86,15 +86,6 @@ choices-numbers h (suc n) =
         ∙ numbers-shift (d * count h n) 0 (count h n)
         ∙ ap (λ (x : ℕ). numbers x (count h n)) start
 
-pub numbers-length : (i n : ℕ) → length (numbers i n) ≡ n
-numbers-length i zero = refl
-numbers-length i (suc n) = ap suc (numbers-length (suc i) n)
-
--- there are (h + 1)^n choices
-pub choices-length : (h n : ℕ) → length (choices h n) ≡ count h n
-choices-length h n =
-    sym (length-map (choices h n) (number h)) ∙ ap length (choices-numbers h n) ∙ numbers-length 0 (count h n)
-
 -- a choice stands at the place of its number
 numbers-at : (i n j x : ℕ) → getElem? (numbers i n) j ≡ some x → x ≡ i + j
 numbers-at i zero j x e = absurd (none≢some e)
@@ -120,21 +111,6 @@ choice-number h n ds m =
     let same : number h ds ≡ 0 + r .0 = numbers-at 0 (count h n) (r .0) (number h ds) at in
     let place : number h ds ≡ r .0 = omega arith in
     ap (getElem? (choices h n)) place ∙ r .1
-
--- so choices with one number are one choice, and each number is below the count
-pub number-only : (h n : ℕ) (ds es : Choice) → ds ∈ choices h n → es ∈ choices h n → number h ds ≡ number h es
-    → ds ≡ es
-number-only h n ds es m k e =
-    Option·some-injective ds es
-    (sym (choice-number h n ds m) ∙ ap (getElem? (choices h n)) e ∙ choice-number h n es k)
-
-pub numbers-below : (i n x : ℕ) → x ∈ numbers i n → x < i + n
-numbers-below i zero x m = absurd (List·Memᴰ·not-nil m)
-numbers-below i (suc n) x m = go (List·Memᴰ·cases-cons m) (numbers-below (suc i) n x)
-  where
-    go : (x ≡ i) ⊎ (x ∈ numbers (suc i) n) → (x ∈ numbers (suc i) n → x < suc i + n) → x < i + suc n
-    go (inl e) below = omega arith
-    go (inr k) below = let h : x < suc i + n = below k in omega arith
 
 pub number-below : (h n : ℕ) (ds : Choice) → ds ∈ choices h n → number h ds < count h n
 number-below h n ds m =

@@ -13,8 +13,7 @@ use Rattle.covering.specs.Lists.{_∈_}
 use Rattle.covering.specs.Term.{Term, Atom, Question, terms, Sub, on-term, on-atom, eqTerm, con}
 use Rattle.covering.proofs.Lists.{any-in, any-out}
 use Rattle.covering.proofs.Terms.{con-inj, atom-path, eqTerm→eq, eqTerm-refl, terms-in, terms-out}
-use Rattle.unification.specs.Classes.{Pair, Kernel}
-use Rattle.unification.specs.Classes.{HoldsPairs}
+use Rattle.unification.specs.Classes.{Pair, Kernel, HoldsPairs}
 use Rattle.unification.specs.Choice.{never, placePairs, atomPairs, toHead}
 use Rattle.unification.specs.Step.{memTerm}
 

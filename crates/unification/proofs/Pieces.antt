@@ -13,16 +13,16 @@ use Rattle.covering.specs.Covers.{Sends, Covers}
 use Rattle.covering.specs.Form.{form}
 use Rattle.covering.specs.Lists.{_∈_}
 use Rattle.covering.specs.Term.{Term, Atom, Question, terms, Sub, on-term, on-atom, on-question, eqAtom, var, con}
+use Rattle.covering.specs.Term.{Below}
 use Rattle.covering.proofs.Preorder.{covers-trans}
 use Rattle.covering.proofs.Form.{form-equivalent}
 use Rattle.covering.proofs.Lists.{any-in, any-out}
 use Rattle.covering.proofs.Tests.{decide, clash, or-right, cond-yes, cond-no}
 use Rattle.covering.proofs.Terms.{var≢con, eqAtom→eq, eqAtom-refl, terms-in, terms-out}
 use Rattle.covering.specs.Rule.{Rule, Unknown}
-use Rattle.unification.specs.Classes.{unify, Kernel}
-use Rattle.unification.specs.Classes.{HoldsPairs}
+use Rattle.unification.specs.Classes.{unify, Kernel, HoldsPairs}
 use Rattle.unification.specs.Choice.{Choice, number, choices, someSent, left, toHead, pairing}
-use Rattle.unification.specs.Step.{up, move, Below, memTerm, guarded, valid, rewriting, rewritings}
+use Rattle.unification.specs.Step.{up, move, memTerm, guarded, valid, rewriting, rewritings}
 use Rattle.unification.specs.Published.{memAtom, without, scope, NonSeparating, PieceUnifier, beta}
 use Rattle.unification.proofs.Classes.{Least, unify-least, kernel-admissible}
 use Rattle.unification.proofs.Choices.{find-digit, choices-in}

@@ -11,8 +11,7 @@ use Rattle.covering.specs.Lists.{_∈_}
 use Rattle.covering.specs.Term.{Term, Atom, Question, Sub, con}
 use Rattle.covering.proofs.Tests.{none≢some}
 use Rattle.covering.proofs.Terms.{con-inj}
-use Rattle.unification.specs.Classes.{Pair, Kernel, Equivalence}
-use Rattle.unification.specs.Classes.{HoldsPairs}
+use Rattle.unification.specs.Classes.{Pair, Kernel, Equivalence, HoldsPairs}
 use Rattle.unification.specs.Choice.{placePairs, atomPairs, toHead}
 use Rattle.unification.specs.Published.{Together, Puts}
 use Rattle.unification.proofs.Pairs.{no-clash}

@@ -4,21 +4,14 @@ use mathlib.Core.Path.{_≡_, refl, sym, _∙_, ap, ap₂, subst}
 use mathlib.Core.Bool.{Bool, cond, not, _&&_, _||_}
 use mathlib.Core.Logic.{_⊎_, inl, inr}
 use mathlib.Core.List.{List, _++_, List·Memᴰ·append-cases, Memᴰ·append-left, Memᴰ·append-right}
-use mathlib.Core.Option.{some, Option·some-injective, none}
-use Prim.Native.Nat.{ℕ}
-use Rattle.covering.proofs.SameForm.{Alike}
+use mathlib.Core.Option.{some, none}
+use Rattle.covering.proofs.SameForm.{Alike, eq-same, var-same, alike-part, form-same}
 use Rattle.covering.specs.Lists.{_∈_}
-use Rattle.covering.specs.Term.{Term, Question, terms, Sub, on-term, eqTerm, var, con}
+use Rattle.covering.specs.Term.{Term, Question, terms, Sub, on-term, eqTerm, var, con, isVar as isVar′, isVar}
 use Rattle.covering.proofs.Lists.{all-same}
-use Rattle.covering.proofs.SameForm.{eq-same, var-same, alike-part, form-same}
-use Rattle.covering.specs.Term.{isVar as isVar′, isVar}
 use Rattle.covering.proofs.Terms.{terms-append}
 use Rattle.covering.specs.Rule.{Rule}
-use Rattle.unification.specs.Classes.{Pair, unify, Kernel}
-use Rattle.unification.specs.Classes.{HoldsPairs}
 use Rattle.unification.specs.Step.{isUnknown, guarded, safe, valid, judge}
-use Rattle.unification.proofs.Classes.{Least, unify-least, kernel-admissible}
-use Rattle.unification.proofs.Valid.{near-on}
 
 isVar-is : (t : Term) → isVar t ≡ isVar′ t
 isVar-is (var n) = refl
@@ -76,18 +69,3 @@ alike-absorbed s t f g ts =
       const = λ x c m e. sym (f x) ∙ ap (on-term t) e;
       const′ = λ x c m e. sym (g x) ∙ ap (on-term s) e;
     }
-
--- whatever classes hold the pairs and merge no more than the ones found: they are alike, so they give the same
--- verdict
-pub least-alike : (ps : List Pair) (σ τ : Sub) → unify ps var ≡ some σ → HoldsPairs (Kernel τ) ps
-    → ((n : ℕ) → Kernel σ (τ n) (var n)) → (ts : List Term) → Alike σ τ ts
-least-alike ps σ τ found holds near = alike-absorbed σ τ (near-on τ σ forth) (near-on σ τ near)
-  where
-    least : Least (Kernel τ) (unify ps var)
-    least = unify-least (Kernel τ) (kernel-admissible τ) ps var (λ n. refl) holds
-
-    forth : (n : ℕ) → Kernel τ (σ n) (var n)
-    forth n =
-        subst (λ (s : Sub). Kernel τ (s n) (var n))
-        (Option·some-injective (least .classes) σ (sym (least .found) ∙ found))
-        (least .near n)

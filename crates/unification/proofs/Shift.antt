@@ -12,18 +12,17 @@ use lib.ListN.{length}
 use Rattle.covering.specs.Form.{form}
 use Rattle.covering.proofs.SameForm.{Alike}
 use Rattle.covering.specs.Lists.{_∈_, all, keep, bind}
-use Rattle.covering.specs.Term.{Term, Atom, Question, terms, Sub, on-term, on-atom, on-question, comp, eqTerm, var, con}
+use Rattle.covering.specs.Term.{Term, Atom, Question, terms, Sub, on-term, on-atom, on-question, comp, eqTerm, var}
+use Rattle.covering.specs.Term.{con, Below, isVar}
 use Rattle.covering.proofs.Lists.{all-same, map-same, map-append, map-none}
 use Rattle.covering.proofs.Tests.{same-bool, none≢some}
 use Rattle.covering.proofs.Terms.{eqTerm→eq, eq→eqTerm, on-term-var, on-term-comp, on-atom-fixed, on-atom-comp, terms-in}
 use Rattle.covering.proofs.Terms.{terms-out, terms-on}
 use Rattle.covering.specs.Rule.{Rule}
-use Rattle.unification.specs.Classes.{Pair, unify, Kernel}
-use Rattle.unification.specs.Classes.{HoldsPairs}
+use Rattle.unification.specs.Classes.{Pair, unify, Kernel, HoldsPairs}
 use Rattle.unification.specs.Choice.{Choice, number, choices, someSent, left, never, placePairs, toHead, pairing}
-use Rattle.unification.specs.Step.{up, move, Below, memTerm, isUnknown, guarded, safe, valid, rewriting, judge}
-use Rattle.covering.specs.Term.{isVar}
-use Rattle.unification.specs.Step.{step, label, listed, rewritings}
+use Rattle.unification.specs.Step.{up, move, memTerm, isUnknown, guarded, safe, valid, rewriting, judge, step}
+use Rattle.unification.specs.Step.{label, listed}
 use Rattle.unification.proofs.Classes.{Least, unify-least, unify-sound, kernel-admissible}
 use Rattle.unification.proofs.Choices.{left-in}
 use Rattle.unification.proofs.Collected.{collect-same}
@@ -314,8 +313,3 @@ listed-shift k k′ r Q low low′ =
   where
     h : ℕ
     h = length (r .head)
-
-pub rewritings-shift : (k k′ : ℕ) (r : Rule) (Q : Question) → Below k Q → Below k′ Q
-    → rewritings k r Q ≡ rewritings k′ r Q
-unfolding rewritings
-rewritings-shift k k′ r Q low low′ = ap (map (λ (e : ℕ × Question). e .1)) (listed-shift k k′ r Q low low′)

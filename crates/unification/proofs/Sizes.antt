@@ -2,82 +2,27 @@
 -- takes its relations, its numbers of places and its constants from the question and the rule. So a record has room
 -- for it. Assumes nothing.
 use mathlib.Core.Path.{_≡_, refl, sym, _∙_, ap, subst}
-use mathlib.Core.Bool.{not}
 use mathlib.Core.Logic.{_⊎_, inl, inr}
-use mathlib.Core.List.{List, [], _∷_, _++_, List·Memᴰ·head, List·Memᴰ·tail, List·Memᴰ·append-cases, Memᴰ·append-left}
+use mathlib.Core.List.{List, [], _∷_, _++_, List·Memᴰ·append-cases, Memᴰ·append-left}
 use mathlib.Core.List.{Memᴰ·append-right, Memᴰ·of-map, Memᴰ·cast}
-use Prim.Native.Nat.{ℕ, zero, suc, _+_, _<_, _≤_, _*_}
-use native.Mathlib.Nat.{suc-mul, mul-le-mul-right}
+use Prim.Native.Nat.{ℕ, zero, suc, _+_, _<_, _≤_}
 use native.Mathlib.Omega.{arith}
-use lib.Dec.{T, eqb}
+use lib.Dec.{T}
 use lib.ListN.{length, length-append, length-map}
-use Rattle.covering.specs.Form.{dedup, firsts, numbering, form}
-use Rattle.covering.specs.Lists.{_∈_, keep, numbers}
-use Rattle.covering.specs.Term.{Term, Atom, Question, terms, Sub, on-term, on-atom, on-question, var, con}
-use Rattle.covering.proofs.Fitting.{dedup-few}
-use Rattle.covering.proofs.Lists.{keep-few}
-use Rattle.covering.proofs.Form.{dedup-out, firsts-in, form-numbered}
+use Rattle.covering.specs.Form.{dedup, numbering, form}
+use Rattle.covering.specs.Lists.{_∈_}
+use Rattle.covering.specs.Term.{Term, Atom, Question, terms, Sub, on-term, on-atom, on-question, var, con, Below}
 use Rattle.covering.proofs.SameForm.{form-form}
 use Rattle.covering.proofs.Terms.{var≢con, terms-in, terms-out, terms-append, terms-on}
 use Rattle.covering.specs.Rule.{Rule}
 use Rattle.unification.specs.Choice.{Choice, someSent, left}
-use Rattle.unification.specs.Step.{up, move, Below, rewriting}
+use Rattle.unification.specs.Step.{up, move, rewriting}
+use Rattle.covering.proofs.FormSizes.{form-atom, form-length}
 use Rattle.unification.proofs.Choices.{left-in}
 use Rattle.unification.proofs.Listed.{Made}
 use Rattle.unification.proofs.Means.{class-constant}
 use Rattle.unification.proofs.Moved.{moved-term}
-use Rattle.unification.proofs.Numbers.{choice-length, numbers-length, numbers-below}
-
--- forms: no longer than the question, and with fewer variables than places
-pub form-length : (A : Question) → length (form A) ≤ length A
-unfolding form
-form-length A =
-    subst (λ (n : ℕ). n ≤ length A)
-    (sym (length-map (dedup A) (on-atom (numbering (dedup A))))) (dedup-few A)
-
-pub form-atom : (A : Question) (a : Atom) → a ∈ form A → (b : Atom) × (b ∈ A) × (on-atom (numbering (dedup A)) b ≡ a)
-unfolding form
-form-atom A a m =
-    let x = Memᴰ·of-map (on-atom (numbering (dedup A))) (dedup A) m in (x .0, dedup-out A (x .0) (x .1), x .2)
-
-firsts-length : (ts : List Term) → length (firsts ts) ≤ length ts
-firsts-length [] = omega arith
-firsts-length (var n ∷ ts) =
-    let one : length (keep (λ m. not (eqb n m)) (firsts ts)) ≤ length (firsts ts) =
-    keep-few (λ m. not (eqb n m)) (firsts ts) in
-    let two : length (firsts ts) ≤ length ts = firsts-length ts in
-    omega arith
-firsts-length (con c ∷ ts) = let two : length (firsts ts) ≤ length ts = firsts-length ts in omega arith
-
-pub form-below : (A : Question) → Below (length (terms (form A))) (form A)
-form-below A n m =
-    let count : ℕ = length (firsts (terms (dedup A))) in
-    let here : n ∈ numbers 0 count =
-    subst (λ (l : List ℕ). n ∈ l) (form-numbered A) (firsts-in (terms (form A)) n m) in
-    let low : n < 0 + count = numbers-below 0 count n here in
-    let long : length (firsts (terms (form A))) ≡ count = ap length (form-numbered A) ∙ numbers-length 0 count in
-    let most : length (firsts (terms (form A))) ≤ length (terms (form A)) = firsts-length (terms (form A)) in
-    omega arith
-
--- so a question in form of at most m atoms with at most p places has its variables below m x p
-terms-length : (p : ℕ) (A : Question) → ((a : Atom) → a ∈ A → length (a .args) ≤ p) → length (terms A) ≤ length A * p
-terms-length p [] h = omega arith
-terms-length p (a ∷ A) h =
-    let one : length (a .args) ≤ p = h a (List·Memᴰ·head refl) in
-    let two : length (terms A) ≤ length A * p = terms-length p A (λ b m. h b (List·Memᴰ·tail m)) in
-    let all : length (a .args ++ terms A) ≡ length (a .args) + length (terms A) =
-    length-append (a .args) (terms A) in
-    let most : suc (length A) * p ≡ length A * p + p = suc-mul (length A) p in
-    omega arith
-
-pub in-form-below : (m p : ℕ) (Q : Question) → form Q ≡ Q → length Q ≤ m
-    → ((a : Atom) → a ∈ Q → length (a .args) ≤ p) → Below (m * p) Q
-in-form-below m p Q e short narrow n h =
-    let low : n < length (terms (form Q)) = form-below Q n (subst (λ (A : Question). var n ∈ terms A) (sym e) h) in
-    let same : length (terms (form Q)) ≡ length (terms Q) = ap (λ (A : Question). length (terms A)) e in
-    let one : length (terms Q) ≤ length Q * p = terms-length p Q narrow in
-    let two : length Q * p ≤ m * p = mul-le-mul-right p short in
-    omega arith
+use Rattle.unification.proofs.Numbers.{choice-length}
 
 -- a listed rewriting is in form
 pub listed-form : {k : ℕ} {r : Rule} {Q : Question} {n : ℕ} {X : Question} → Made k r Q n X → form X ≡ X

@@ -10,7 +10,7 @@ use lib.ListN.{length, length-map}
 use Rattle.covering.specs.Covers.{Sends, Covers}
 use Rattle.covering.specs.Form.{form}
 use Rattle.covering.specs.Lists.{_∈_}
-use Rattle.covering.specs.Term.{Question, Sub, on-atom, on-question, var}
+use Rattle.covering.specs.Term.{Question, Sub, on-atom, on-question, var, Below}
 use Rattle.covering.proofs.Preorder.{covers-trans}
 use Rattle.covering.proofs.Form.{form-equivalent}
 use Rattle.covering.proofs.Tests.{decide}
@@ -18,7 +18,7 @@ use Rattle.covering.proofs.Terms.{on-atom-same, terms-in}
 use Rattle.covering.specs.Rule.{Rule}
 use Rattle.unification.specs.Classes.{unify, Kernel}
 use Rattle.unification.specs.Choice.{number, choices, someSent, left, pairing}
-use Rattle.unification.specs.Step.{up, move, Below, valid, rewriting, rewritings}
+use Rattle.unification.specs.Step.{up, move, valid, rewriting, rewritings}
 use Rattle.unification.specs.Apply.{Applies}
 use Rattle.unification.proofs.Classes.{Least, unify-least, kernel-admissible}
 use Rattle.unification.proofs.Choices.{Chosen, choose, idle}

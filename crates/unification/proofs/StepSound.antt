@@ -10,17 +10,17 @@ use native.Mathlib.Omega.{arith}
 use lib.Dec.{T}
 use Rattle.covering.specs.Covers.{Sends, Covers}
 use Rattle.covering.specs.Lists.{_∈_}
-use Rattle.covering.specs.Term.{Term, Atom, Question, terms, Sub, on-term, on-atom, on-question, comp, eqTerm, var, con}
+use Rattle.covering.specs.Term.{Term, Atom, Question, terms, Sub, on-term, on-atom, on-question, comp, eqTerm, var}
+use Rattle.covering.specs.Term.{con, Below}
 use Rattle.covering.proofs.Preorder.{covers-trans}
 use Rattle.covering.proofs.Form.{form-equivalent}
 use Rattle.covering.proofs.Tests.{decide, clash, both, fst-of, snd-of, not-of, cond-yes, cond-no}
 use Rattle.covering.proofs.Terms.{var-inj, var≢con, eqTerm→eq, eq→eqTerm, on-term-comp, on-atom-same, on-atom-comp}
 use Rattle.covering.proofs.Terms.{terms-in}
 use Rattle.covering.specs.Rule.{Rule}
-use Rattle.unification.specs.Classes.{Kernel}
-use Rattle.unification.specs.Classes.{HoldsPairs}
+use Rattle.unification.specs.Classes.{Kernel, HoldsPairs}
 use Rattle.unification.specs.Choice.{Choice, left, toHead, pairing}
-use Rattle.unification.specs.Step.{move, Below, memTerm, isUnknown, guarded, valid, rewriting, rewritings}
+use Rattle.unification.specs.Step.{move, memTerm, isUnknown, guarded, valid, rewriting, rewritings}
 use Rattle.unification.specs.Apply.{Applies}
 use Rattle.unification.proofs.Classes.{unify-sound}
 use Rattle.unification.proofs.Choices.{split-choice}

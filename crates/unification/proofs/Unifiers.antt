@@ -9,13 +9,12 @@ use Prim.Native.Nat.{ℕ}
 use lib.Dec.{T}
 use lib.ListN.{getElem?}
 use Rattle.covering.specs.Lists.{_∈_, Distinct}
-use Rattle.covering.specs.Term.{Term, Atom, Question, terms, Sub, on-term, on-atom, on-question, var, con}
+use Rattle.covering.specs.Term.{Term, Atom, Question, terms, Sub, on-term, on-atom, on-question, var, con, Below}
 use Rattle.covering.proofs.Terms.{con-inj, atom-path, terms-in, terms-out}
 use Rattle.covering.specs.Rule.{Rule, Unknown}
-use Rattle.unification.specs.Classes.{unify, Kernel, Equivalence}
-use Rattle.unification.specs.Classes.{HoldsPairs}
+use Rattle.unification.specs.Classes.{unify, Kernel, Equivalence, HoldsPairs}
 use Rattle.unification.specs.Choice.{Choice, left, sent, pairing}
-use Rattle.unification.specs.Step.{move, Below, guarded, valid, rewriting}
+use Rattle.unification.specs.Step.{move, guarded, valid, rewriting}
 use Rattle.unification.specs.Published.{scope, Partition, Selects, NonSeparating, PieceUnifier, beta, Together, Puts}
 use Rattle.unification.specs.Published.{MergesNoMore}
 use Rattle.unification.proofs.Classes.{unify-sound, least-equivalence, idempotent}

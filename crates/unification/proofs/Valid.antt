@@ -7,15 +7,13 @@ use Prim.Native.Nat.{ℕ}
 use lib.Dec.{T}
 use Rattle.covering.specs.Covers.{Sends}
 use Rattle.covering.specs.Lists.{_∈_}
-use Rattle.covering.specs.Term.{Term, Atom, Question, terms, Sub, on-term, on-atom, comp, eqTerm, var, con}
-use Rattle.covering.proofs.Lists.{all-out}
+use Rattle.covering.specs.Term.{Term, Atom, Question, terms, Sub, on-term, on-atom, comp, eqTerm, var, con, isVar}
+use Rattle.covering.proofs.Lists.{all-out, all-in}
 use Rattle.covering.proofs.Tests.{decide, clash, both, fst-of, snd-of, or-left, or-right, or-cases, not-of}
-use Rattle.covering.proofs.Lists.{all-in}
 use Rattle.covering.proofs.Terms.{var≢con, eqTerm→eq, eq→eqTerm, on-term-comp, on-atom-same, on-atom-comp}
 use Rattle.covering.specs.Rule.{Rule, Unknown}
 use Rattle.unification.specs.Classes.{Kernel}
 use Rattle.unification.specs.Step.{memTerm, isUnknown, guarded, safe, valid, rewriting}
-use Rattle.covering.specs.Term.{isVar}
 use Rattle.unification.specs.Apply.{Fresh}
 use Rattle.unification.proofs.Pairs.{sends-term, mem→memTerm, memTerm→mem}
 

@@ -3,26 +3,23 @@
 use mathlib.Core.Bool.{Bool, cond, not, _&&_, _||_}
 use mathlib.Core.List.{List, _++_, map}
 use mathlib.Core.Option.{Option, none, some}
-use Prim.Native.Nat.{ℕ, _+_, _<_}
+use Prim.Native.Nat.{ℕ, _+_}
 use lib.Dec.{leb}
 use lib.ListN.{length}
-use Rattle.covering.specs.Lists.{_∈_, any, all, keep, head, bind, collect}
+use Rattle.covering.specs.Lists.{any, all, keep, head, bind, collect}
 use Rattle.covering.specs.Term.{Term, var, Question, Sub, on-term, on-question, terms, eqTerm, isVar}
 use Rattle.covering.specs.Form.{form}
 use Rattle.covering.specs.Rule.{Rule}
 use Rattle.unification.specs.Classes.{unify}
 use Rattle.unification.specs.Choice.{Choice, number, choices, someSent, left, pairing}
 
--- "The rule's variables are kept apart from the question's": they are moved up by k
+-- "The rule's variables are kept apart from the question's": they are moved up by k, which is to be above every
+-- variable of the question (`Below`)
 abbrev pub up : ℕ → Sub
 up k n = var (k + n)
 
 abbrev pub move : ℕ → Rule → Rule
 move k r = record { body = on-question (up k) (r .body); head = on-question (up k) (r .head) }
-
--- so k is to be above every variable of the question
-abbrev pub Below : ℕ → Question → Type 0
-Below k A = (n : ℕ) → var n ∈ terms A → n < k
 
 abbrev pub memTerm : Term → List Term → Bool
 memTerm t ts = any (eqTerm t) ts

@@ -7,14 +7,13 @@ use Prim.Native.Nat.{ℕ, _+_, _-_, _<_}
 use lib.ListN.{getD}
 use Rattle.covering.specs.Lists.{any, all}
 use Rattle.covering.specs.Term.{Term, Sub, on-term, on-question, terms}
-use Rattle.covering.specs.Record.{Layout, size, termOf, argsAt, atomAt, atomsAt}
+use Rattle.covering.specs.Record.{Layout, size, termOf, argsAt, atomsAt}
 use Rattle.covering.proofs.Bytes.{args-more, args-end}
-use Rattle.covering.proofs.Places.{atoms-none, atoms-more}
+use Rattle.covering.proofs.Places.{atoms-none, args-none, terms-first, terms-sent}
 use Rattle.covering.proofs.Lists.{all-append, any-append}
 
-args-none : (B : List ℕ) (i w : ℕ) → w ≡ 0 → argsAt B i w ≡ []
-unfolding argsAt
-args-none B i w e = rw (e, argsAt)
+no-args : (B : List ℕ) (i w : ℕ) → w ≡ 0 → argsAt B i w ≡ []
+no-args B i w e = ap (argsAt B i) e ∙ args-none B i
 
 -- the places of an atom, of which j of w are passed: whether some term passes the test, whether each does once s sent
 -- it on
@@ -48,11 +47,11 @@ module _ (p : Term → Bool) (B : List ℕ) (i j w : ℕ) (lt : j < w) where
 
 -- no place is left
 pub some-place-none : (p : Term → Bool) (B : List ℕ) (i w : ℕ) → w ≡ 0 → any p (argsAt B i w) ≡ false
-some-place-none p B i w e = rw (args-none B i w e)
+some-place-none p B i w e = rw (no-args B i w e)
 
 pub each-place-none : (p : Term → Bool) (s : Sub) (B : List ℕ) (i w : ℕ) → w ≡ 0
     → all p (map (on-term s) (argsAt B i w)) ≡ true
-each-place-none p s B i w e = rw (args-none B i w e)
+each-place-none p s B i w e = rw (no-args B i w e)
 
 -- n atoms from i on: the same of their terms
 module _ (p : Term → Bool) (L : Layout) (B : List ℕ) (i n : ℕ) where
@@ -61,13 +60,11 @@ module _ (p : Term → Bool) (L : Layout) (B : List ℕ) (i n : ℕ) where
 
   pub some-term-hit : 0 < n → {b : Bool} → b ≡ any p (argsAt B (i + 1) (L .places)) → b ≡ true
       → any p (terms (atomsAt L B i n)) ≡ true
-  unfolding atomAt
-  some-term-hit h e f = rw (atoms-more L B i n h, any-append p, sym e ∙ f)
+  some-term-hit h e f = rw (terms-first L B i n h, any-append p, sym e ∙ f)
 
   pub some-term-miss : 0 < n → {b : Bool} → b ≡ any p (argsAt B (i + 1) (L .places)) → b ≡ false
       → any p (terms (atomsAt L B i n)) ≡ any p (terms (atomsAt L B (i + size L) (n - 1)))
-  unfolding atomAt
-  some-term-miss h e f = rw (atoms-more L B i n h, any-append p, sym e ∙ f)
+  some-term-miss h e f = rw (terms-first L B i n h, any-append p, sym e ∙ f)
 
   pub each-term-none : (s : Sub) → n ≡ 0 → all p (terms (on-question s (atomsAt L B i n))) ≡ true
   each-term-none s e = rw (atoms-none L B i n e)
@@ -75,12 +72,10 @@ module _ (p : Term → Bool) (L : Layout) (B : List ℕ) (i n : ℕ) where
   pub each-term-fails : (s : Sub) → 0 < n
       → {b : Bool} → b ≡ all p (map (on-term s) (argsAt B (i + 1) (L .places))) → b ≡ false
       → all p (terms (on-question s (atomsAt L B i n))) ≡ false
-  unfolding atomAt
-  each-term-fails s h e f = rw (atoms-more L B i n h, all-append p, sym e ∙ f)
+  each-term-fails s h e f = rw (terms-sent L B i n h s, all-append p, sym e ∙ f)
 
   pub each-term-passes : (s : Sub) → 0 < n
       → {b : Bool} → b ≡ all p (map (on-term s) (argsAt B (i + 1) (L .places))) → b ≡ true
       → all p (terms (on-question s (atomsAt L B i n)))
       ≡ all p (terms (on-question s (atomsAt L B (i + size L) (n - 1))))
-  unfolding atomAt
-  each-term-passes s h e f = rw (atoms-more L B i n h, all-append p, sym e ∙ f)
+  each-term-passes s h e f = rw (terms-sent L B i n h s, all-append p, sym e ∙ f)

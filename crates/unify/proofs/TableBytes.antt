@@ -1,5 +1,5 @@
 -- Laws of terms and classes as the code holds them in bytes. Assumes nothing.
-use mathlib.Core.Path.{_≡_, refl, sym, _∙_, ap, subst}
+use mathlib.Core.Path.{_≡_, refl, sym, _∙_, ap, subst, ap₂}
 use mathlib.Core.Bool.{true, false, cond}
 use mathlib.Core.Logic.{_⊎_, inl, inr}
 use mathlib.Core.List.{List, _∷_, map, map-map}
@@ -14,12 +14,12 @@ use Rattle.covering.specs.Record.{termOf}
 use Rattle.covering.proofs.Bytes.{term-var, term-con}
 use Rattle.covering.proofs.Lists.{map-same, map-none}
 use Rattle.covering.proofs.Tests.{either}
+use Rattle.covering.specs.Lists.{numbers}
 use Rattle.unify.specs.declared.Joined.{Joined}
 use Rattle.unification.specs.Classes.{point}
 use Rattle.unification.specs.Step.{up}
-use Rattle.unify.specs.Table.{Table, look, joinTable}
-use Rattle.unify.specs.InBytes.{classesOf}
-use Rattle.unify.specs.InBytes.{joinedTable}
+use Rattle.unify.specs.Table.{Table, look, joinTable, own}
+use Rattle.unify.specs.InBytes.{classesOf, joinedTable}
 
 pub moved-variable : (u : ℕ) → u < 32 → termOf (u + 32) ≡ on-term (up 32) (termOf u)
 moved-variable u h = term-var (u + 32) (omega arith) ∙ ap var (omega arith) ∙ sym (ap (on-term (up 32)) (term-var u (omega arith)))
@@ -103,3 +103,9 @@ joined-yes p e = rw e
 pub joined-no : (p : Joined) → p .ok ≡ false → joinedTable p ≡ none
 unfolding joinedTable
 joined-no p e = rw e
+
+-- bytes that are their own places put each variable in a class of its own
+pub own-bytes : (n i : ℕ) → i + n ≤ 128 → classesOf (numbers i n) ≡ own i n
+unfolding classesOf
+own-bytes zero i h = refl
+own-bytes (suc n) i h = ap₂ _∷_ (term-var i (omega arith)) (own-bytes n (suc i) (omega arith))

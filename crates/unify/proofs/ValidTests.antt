@@ -10,18 +10,16 @@ use borrow.Author.Tests.{eqb-true, eqb-false, eq-eqb, ne-eqb}
 use lib.Dec.{eqb}
 use lib.ListN.{getD}
 use Rattle.covering.specs.Lists.{any, all}
-use Rattle.covering.specs.Term.{Term, var, con, Question, Sub, on-term, on-question, on-atom, terms, eqTerm}
+use Rattle.covering.specs.Term.{Term, var, con, Question, Sub, on-term, on-question, on-atom, terms, eqTerm, isVar}
 use Rattle.covering.specs.Record.{desk, termOf, atomsAt}
 use Rattle.covering.proofs.Bytes.{term-var, term-con, term-same}
-use Rattle.covering.proofs.Lists.{map-none}
+use Rattle.covering.proofs.Lists.{map-none, all-append}
 use Rattle.covering.proofs.Tests.{either}
 use Rattle.covering.proofs.Terms.{on-atom-fixed, terms-on}
 use Rattle.covering.specs.Rule.{Rule}
 use Rattle.unification.specs.Step.{up, move, memTerm, isUnknown, guarded, safe}
-use Rattle.covering.specs.Term.{isVar}
 use Rattle.unify.specs.Table.{Table, look, tabled}
 use Rattle.unify.specs.InBytes.{ruleIn, classesOf}
-use Rattle.covering.proofs.Lists.{all-append}
 
 -- a byte moved up by k
 pub up-variable : (k u : ℕ) → k + u < 128 → termOf (k + u) ≡ on-term (up k) (termOf u)

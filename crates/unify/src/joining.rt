@@ -14,8 +14,7 @@ ghost use Rattle.unification.specs.Classes.{point};
 ghost use Rattle.unification.specs.Choice.{placePairs, atomPairs};
 ghost use Rattle.unification.specs.Step.{up};
 ghost use Rattle.unify.specs.Table.{own, joinTable, unifyTable};
-ghost use Rattle.unify.specs.InBytes.{inBook, classesOf};
-ghost use Rattle.unify.specs.InBytes.{joinedTable};
+ghost use Rattle.unify.specs.InBytes.{inBook, classesOf, joinedTable};
 
 const OWN: [u8; 64] = [
     0,

@@ -10,7 +10,7 @@ ghost use lib.Dec.{T};
 ghost use lib.ListN.{length, getD};
 ghost use Rattle.covering.specs.Lists.{all};
 ghost use Rattle.covering.specs.Term.{on-term, on-question, terms, eqTerm};
-ghost use Rattle.covering.specs.Record.{desk, termOf, argsAt, atomsAt, usedFirst};
+ghost use Rattle.covering.specs.Record.{desk, termOf, argsAt, atomsAt, usedFirst, questionOf};
 ghost use Rattle.covering.specs.Buffer.{AtomsIn};
 ghost use Rattle.unification.specs.Step.{up, move, memTerm, isUnknown, guarded, safe, valid};
 ghost use Rattle.unify.specs.Table.{tabled};
@@ -247,7 +247,7 @@ pub fn is_valid(
     ensures { λ r. ⌜ r
         ≡ valid
         (tabled (classesOf table))
-        (atomsAt desk left 1 (getD left 0 0))
+        (questionOf desk left)
         (move 32 (ruleIn (now (book .entry)) body bodies head heads)) ⌝ }
 {
     let mut at = head;

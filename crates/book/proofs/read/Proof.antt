@@ -6,8 +6,7 @@ use mathlib.Core.List.{List}
 use Prim.Native.Nat.{ℕ}
 use Rattle.reading.specs.declared.Header.{Header}
 use Rattle.reading.specs.Header.{relations, constants, rules, atoms, allowed, relationsAt, rulesAt, questionAt}
-use Rattle.reading.specs.Header.{headerOf}
-use Rattle.reading.specs.Header.{totalWord}
+use Rattle.reading.specs.Header.{headerOf, totalWord}
 use Rattle.book.proofs.read.Statement.{statement}
 use Rattle.book.proofs.read.Tie as tie
 

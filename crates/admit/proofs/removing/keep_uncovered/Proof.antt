@@ -1,4 +1,4 @@
--- `explore::removing::keep_uncovered` meets its contract. The loop's invariant is `Midway`; the measure is the number
+-- `admit::removing::keep_uncovered` meets its contract. The loop's invariant is `Midway`; the measure is the number
 -- of members left.
 use borrow.Author.Needs.{needs}
 use native.Mathlib.Omega.{arith}
@@ -7,7 +7,7 @@ use Prim.Native.Nat.{_+_, _*_, _-_, _≤_}
 use lib.ListN.{length, getD}
 use Rattle.covering.specs.Record.{desk, questionOf}
 use Rattle.covering.proofs.Tests.{not-true, not-false}
-use Rattle.admit.proofs.Removal.{Midway, midway-start, midway-done, turn-gone, turn-kept, within, short}
+use Rattle.admit.proofs.Removal.{Midway, midway-start, midway-done, turn-gone, turn-kept, within}
 use Rattle.admit.proofs.Removal.{sound-part, midway-as}
 use Rattle.admit.proofs.removing.keep_uncovered.Statement.{statement}
 use Rattle.admit.proofs.removing.keep_uncovered.Tie as tie
@@ -27,9 +27,6 @@ inside : (t : tie.In-loop Inv-loop μ-loop)
     → turn t .loop .at + (1 + getD (turn t .loop .work) (turn t .loop .at) 0 * 5) ≤ length (turn t .loop .work)
 inside t = within _ _ _ _ _ (turn t .loop .inv) (t .loop-test .taken)
 
-few : (t : tie.In-loop Inv-loop μ-loop) → getD (turn t .loop .work) (turn t .loop .at) 0 ≤ 11
-few t = short _ _ _ _ _ (turn t .loop .inv) (t .loop-test .taken)
-
 loop-holds : tie.Need-loop-holds Inv-loop μ-loop
 loop-holds c =
     let b = c .before .before in
@@ -39,44 +36,44 @@ loop-holds c =
 slice-read-width : tie.Need-slice-read-width Inv-loop μ-loop
 slice-read-width c = omega (arith, inside (c .before))
 
-cast-width : tie.Need-cast-width Inv-loop μ-loop
-cast-width c = omega (arith, few (c .before))
-
-mul-width : tie.Need-mul-width Inv-loop μ-loop
-mul-width c = omega (arith, few (c .before))
-
-add-width : tie.Need-add-width Inv-loop μ-loop
-add-width c = omega (arith, few (c .before))
+width-requires : tie.Need-width-requires Inv-loop μ-loop
+width-requires c κs = search needs
 
 sub-covers-sound : tie.Need-sub-covers-sound Inv-loop μ-loop
-sub-covers-sound c = omega (arith, inside (c .before))
+sub-covers-sound c = omega (arith, inside (c .before .before))
 
 part-covers-sound-start : tie.Need-part-covers-sound-start Inv-loop μ-loop
-part-covers-sound-start c = omega (arith, inside (c .before .before))
+part-covers-sound-start c = omega (arith, inside (c .before .before .before))
 
 part-covers-sound-end : tie.Need-part-covers-sound-end Inv-loop μ-loop
 part-covers-sound-end c = search needs
 
 covers-sound-requires : tie.Need-covers-sound-requires Inv-loop μ-loop
 covers-sound-requires c κs =
-    let t = c .before .before .before in
+    let t = c .before .before .before .before in
     (turn t .before .before .before .pre .3, sound-part _ _ _ _ _ (turn t .loop .inv) (t .loop-test .taken))
 
 move-down-requires : tie.Need-move-down-requires Inv-loop μ-loop
-move-down-requires c κs = let t = c .before .before .before .before .before .before in (turn t .loop .inv .lower, inside t)
+move-down-requires c κs =
+    let w = c .before .before .before .before .before in
+    let t = w .before .before in
+    (turn t .loop .inv .lower, omega (arith, w .width .ensures, inside t))
 
 add-end : tie.Need-add-end Inv-loop μ-loop
 add-end c =
-    let t = c .before .before .before .before .before .before .before .before .before in
-    omega (arith, turn t .loop .inv .lower, inside t)
+    let w = c .before .before .before .before .before .before .before .before in
+    let t = w .before .before in
+    omega (arith, w .width .ensures, turn t .loop .inv .lower, inside t)
 
 add-kept : tie.Need-add-kept Inv-loop μ-loop
 add-kept c =
-    let t = c .before .before .before .before .before .before .before .before .before in
+    let t = c .before .before .before .before .before .before .before .before .before .before in
     omega (arith, turn t .loop .inv .few, turn t .loop .inv .passed)
 
 add-at : tie.Need-add-at Inv-loop μ-loop
-add-at c = omega (arith, inside (c .before .before .before .before .before))
+add-at c =
+    let w = c .before .before .before .before in
+    omega (arith, w .width .ensures, inside (w .before .before))
 
 add-i : tie.Need-add-i Inv-loop μ-loop
 add-i c = search needs
@@ -86,16 +83,18 @@ loop-less c = search needs
 
 loop-again : tie.Need-loop-again Inv-loop μ-loop
 loop-again c =
-    let t = c .before .before .before .before .before in
+    let w = c .before .before .before .before in
+    let t = w .before .before in
     let m = turn t .loop .inv in
+    let v = w .width .ensures in
     let e = c .before .covers-sound .ensures in
     ⊎-elim
-    (λ w.
-    midway-as _ _ _ _ _ (w .5) (w .6) (w .7)
-    (turn-kept _ _ _ _ _ m (t .loop-test .taken) _ e (not-true _ (w .0 .taken)) _ (w .2 .ensures)))
-    (λ w.
-    midway-as _ _ _ _ _ (w .1) (w .2) (w .3)
-    (turn-gone _ _ _ _ _ m (t .loop-test .taken) _ e (not-false _ (w .0 .left))))
+    (λ x.
+    midway-as _ _ _ _ _ (x .5) (x .6) (x .7)
+    (turn-kept _ _ _ _ _ m (t .loop-test .taken) v _ e (not-true _ (x .0 .taken)) _ (x .2 .ensures)))
+    (λ x.
+    midway-as _ _ _ _ _ (x .1) (x .2) (x .3)
+    (turn-gone _ _ _ _ _ m (t .loop-test .taken) v _ e (not-false _ (x .0 .left))))
     (c .if1 .came)
 
 same-length : tie.Need-same-length Inv-loop μ-loop
@@ -115,9 +114,7 @@ keep-uncovered-spec =
     μ-loop
     loop-holds
     slice-read-width
-    cast-width
-    mul-width
-    add-width
+    width-requires
     sub-covers-sound
     part-covers-sound-start
     part-covers-sound-end

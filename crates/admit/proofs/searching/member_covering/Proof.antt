@@ -1,17 +1,16 @@
--- `explore::searching::member_covering` meets its contract. The outer loop's invariant: the first covering member is so
+-- `admit::searching::member_covering` meets its contract. The outer loop's invariant: the first covering member is so
 -- many members after the one at hand as it is among those left; the inner one's: the member at hand covers exactly
 -- where one of the candidates left serves. The measures are the numbers of members and of candidates left.
 use borrow.Author.Needs.{needs}
 use native.Mathlib.Omega.{arith}
 use native.Mathlib.Nat.{sub-zero, zero-add}
 use mathlib.Core.Path.{_≡_, sym, _∙_, subst}
-use Prim.Native.Nat.{_+_, _*_, _-_, _≤_}
+use Prim.Native.Nat.{ℕ, suc, _+_, _*_, _-_, _≤_}
 use lib.ListN.{drop}
 use Rattle.covering.specs.Lists.{any}
 use Rattle.covering.specs.Search.{covers}
 use Rattle.cover.specs.Candidates.{coversOn}
-use Rattle.covering.specs.Record.{desk, atomsAt, questionOf}
-use Rattle.covering.specs.Record.{SoundRecord}
+use Rattle.covering.specs.Record.{desk, atomsAt, questionOf, SoundRecord}
 use Rattle.exploration.specs.Union.{membersFrom}
 use Rattle.admit.specs.WorkingArray.{beforeCovering}
 use Rattle.exploration.specs.Standing.{Standing}
@@ -59,30 +58,24 @@ members-holds c = (search needs, rw sub-zero (c .before .before .before .pre .1)
 shared-slice-read-width : tie.Need-shared-slice-read-width Inv-atoms μ-atoms Inv-members μ-members
 shared-slice-read-width c = omega (arith, here (c .before))
 
-cast-width : tie.Need-cast-width Inv-atoms μ-atoms Inv-members μ-members
-cast-width c = omega (arith, here (c .before))
-
-mul-width : tie.Need-mul-width Inv-atoms μ-atoms Inv-members μ-members
-mul-width c = omega (arith, here (c .before))
-
-add-width : tie.Need-add-width Inv-atoms μ-atoms Inv-members μ-members
-add-width c = omega (arith, here (c .before))
+width-requires : tie.Need-width-requires Inv-atoms μ-atoms Inv-members μ-members
+width-requires c κs = search needs
 
 sub-member : tie.Need-sub-member Inv-atoms μ-atoms Inv-members μ-members
-sub-member c = omega (arith, here (c .before))
+sub-member c = omega (arith, here (c .before .before))
 
 part-member-start : tie.Need-part-member-start Inv-atoms μ-atoms Inv-members μ-members
-part-member-start c = omega (arith, here (c .before))
+part-member-start c = omega (arith, here (c .before .before))
 
 part-member-end : tie.Need-part-member-end Inv-atoms μ-atoms Inv-members μ-members
 part-member-end c = search needs
 
 atoms-holds : tie.Need-atoms-holds Inv-atoms μ-atoms Inv-members μ-members
-atoms-holds c = (search needs, covers-one _ _ (here (c .before .before) .sound))
+atoms-holds c = (search needs, covers-one _ _ (here (c .before .before .before) .sound))
 
 covers-on-requires : tie.Need-covers-on-requires Inv-atoms μ-atoms Inv-members μ-members
 covers-on-requires c κs =
-    let b = c .before .before .before .before in
+    let b = c .before .before .before .before .before in
     let a = b .before .before .before .before .before in (
       subst (SoundRecord desk) (sym (part-is (a .args .work .now) (b .before .members .at))) (here b .sound),
       a .pre .2,
@@ -97,7 +90,7 @@ atoms-less c = search needs
 
 atoms-again : tie.Need-atoms-again Inv-atoms μ-atoms Inv-members μ-members
 atoms-again c =
-    let b = c .before .before .before .before .before .before in
+    let b = c .before .before .before .before .before .before .before in
     let a = b .before .before .before .before .before .args in (
       search needs,
       c .before .before .before .atoms .inv .1
@@ -106,7 +99,8 @@ atoms-again c =
     )
 
 add-at : tie.Need-add-at Inv-atoms μ-atoms Inv-members μ-members
-add-at c = omega (arith, here (c .before .before .before .before))
+add-at c =
+    omega (arith, here (c .before .before .before .before .before), c .before .before .before .width .ensures)
 
 add-i : tie.Need-add-i Inv-atoms μ-atoms Inv-members μ-members
 add-i c = search needs
@@ -116,13 +110,23 @@ members-less c = search needs
 
 members-again : tie.Need-members-again Inv-atoms μ-atoms Inv-members μ-members
 members-again c =
-    let b = c .before .before .before .before in
+    let b = c .before .before .before .before .before in
     let a = b .before .before .before .before .before .args in
+    let W = a .work .now in
+    let P = questionOf desk (a .rewriting .now) in
+    let at = b .before .members .at in
+    let i = b .before .members .i in
+    let n = a .count in
     let e =
-    first-miss covers (questionOf desk (a .rewriting .now)) (a .work .now) (b .before .members .at)
-    (b .before .members .i) (a .count) (b .if1 .left)
-    (c .before .atoms .inv .1 ∙ any-end _ _ _ _ (c .atoms-test .taken)) in
-    (search needs, here b .rest, omega (arith, b .before .members .inv .2, e))
+    first-miss covers P W at i n (b .if1 .left) (c .before .atoms .inv .1 ∙ any-end _ _ _ _ (c .atoms-test .taken)) in
+    let next =
+    subst
+    (λ (k : ℕ).
+    Standing W (at + k) (n - (i + 1))
+    × (beforeCovering covers P (membersFrom W at (n - i))
+    ≡ suc (beforeCovering covers P (membersFrom W (at + k) (n - (i + 1))))))
+    (sym (c .before .before .before .width .ensures)) (here b .rest, e) in
+    (search needs, next .0, omega (arith, b .before .members .inv .2, next .1))
 
 returns : tie.Need-returns Inv-atoms μ-atoms Inv-members μ-members
 returns c =
@@ -134,7 +138,7 @@ returns c =
 
 returns-2 : tie.Need-returns-2 Inv-atoms μ-atoms Inv-members μ-members
 returns-2 c =
-    let b = c .before .before .before .before .before .before in
+    let b = c .before .before .before .before .before .before .before in
     let a = b .before .before .before .before .before .args in
     let e =
     first-hit covers (questionOf desk (a .rewriting .now)) (a .work .now) (b .before .members .at) _ _ (b .if1 .left)
@@ -155,9 +159,7 @@ member-covering-spec =
     cast-w
     members-holds
     shared-slice-read-width
-    cast-width
-    mul-width
-    add-width
+    width-requires
     sub-member
     part-member-start
     part-member-end

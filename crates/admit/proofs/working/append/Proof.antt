@@ -4,10 +4,10 @@ use borrow.Author.Needs.{needs}
 use native.Mathlib.Omega.{arith}
 use mathlib.Core.Path.{_≡_, refl, sym, ap, _∙_}
 use mathlib.Core.List.{List, _++_, append-assoc}
-use Prim.Native.Nat.{ℕ, _+_, _*_, _-_, _≤_}
+use Prim.Native.Nat.{ℕ, _+_, _-_, _≤_}
 use lib.ListN.{length, set, length-set, getD, take, drop}
 use lib.Seq.{paste, paste-zero}
-use Rattle.covering.specs.Record.{desk, questionOf, recordBytes}
+use Rattle.covering.specs.Record.{desk, questionOf, recordBytes, width}
 use Rattle.covering.proofs.RoundTrip.{desk-apart}
 use Rattle.covering.proofs.Begun.{begun-long, begun-record}
 use Rattle.covering.proofs.Slices.{paste-more}
@@ -23,18 +23,12 @@ abbrev μ-loop : tie.MeasureT-loop
 shared-slice-read-width : tie.Need-shared-slice-read-width Inv-loop μ-loop
 shared-slice-read-width c = search needs
 
-cast-width : tie.Need-cast-width Inv-loop μ-loop
-cast-width c = search needs
-
-mul-width : tie.Need-mul-width Inv-loop μ-loop
-mul-width c = search needs
-
-add-width : tie.Need-add-width Inv-loop μ-loop
-add-width c = search needs
+width-requires : tie.Need-width-requires Inv-loop μ-loop
+width-requires c κs = search needs
 
 loop-holds : tie.Need-loop-holds Inv-loop μ-loop
 loop-holds c =
-    let a = c .before .args in
+    let a = c .before .before .before .before .args in
     (search needs, refl, paste-zero (a .work .now) (a .len) (a .member .now))
 
 shared-slice-read-work : tie.Need-shared-slice-read-work Inv-loop μ-loop
@@ -55,7 +49,7 @@ loop-less c = search needs
 loop-again : tie.Need-loop-again Inv-loop μ-loop
 loop-again c =
     let l = c .before .before in
-    let a = l .before .before .args in
+    let a = l .before .before .before .before .before .args in
     let i = l .loop .i in (
       search needs,
       simp length-set (omega arith),
@@ -72,17 +66,19 @@ same-length c = search needs
 returns : tie.Need-returns Inv-loop μ-loop
 returns c =
     let l = c .before in
-    let a = l .before .before .args in
+    let a = l .before .before .before .before .before .args in
     let B = a .member .now in
     let W = a .work .now in
-    let width = 1 + getD B 0 0 * 5 in
-    let end : l .loop .i ≡ width = omega arith in (
-      ap (λ (n : ℕ). a .len + n) (sym (begun-long desk B)),
+    let wide = width desk (getD B 0 0) in
+    let is = l .before .width .ensures in
+    let end : l .loop .i ≡ wide = omega arith in (
+      ap (λ (n : ℕ). a .len + n) (is ∙ sym (begun-long desk B)),
       l .loop .inv .2
           ∙ ap (paste W (a .len) B) end
-          ∙ ap (λ (r : List ℕ). take (a .len) W ++ r ++ drop (a .len + width) W)
-          (begun-record desk B desk-apart (l .before .before .pre .0))
-          ∙ append-assoc (take (a .len) W) (recordBytes desk (questionOf desk B)) (drop (a .len + width) W),
+          ∙ ap (λ (r : List ℕ). take (a .len) W ++ r ++ drop (a .len + wide) W)
+          (begun-record desk B desk-apart (l .before .before .before .before .before .pre .0))
+          ∙ append-assoc (take (a .len) W) (recordBytes desk (questionOf desk B)) (drop (a .len + wide) W)
+          ∙ ap (λ (n : ℕ). take (a .len) W ++ (recordBytes desk (questionOf desk B) ++ drop (a .len + n) W)) (sym is),
     )
 
 pub append-spec : {M : Type 1} → statement M
@@ -92,9 +88,7 @@ append-spec =
     Inv-loop
     μ-loop
     shared-slice-read-width
-    cast-width
-    mul-width
-    add-width
+    width-requires
     loop-holds
     shared-slice-read-work
     add-work

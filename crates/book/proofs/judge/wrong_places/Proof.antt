@@ -7,8 +7,7 @@ use Prim.Native.Nat.{ℕ, _+_, _-_, _≤_}
 use mathlib.Core.Bool.{true, false}
 use native.Mathlib.Nat.{sub-zero}
 use Rattle.reading.specs.Word.{byte}
-use Rattle.reading.specs.Header.{inside, placesRange}
-use Rattle.reading.specs.Header.{inBounds}
+use Rattle.reading.specs.Header.{inside, placesRange, inBounds}
 use Rattle.reading.specs.Verdict.{told, wrongPlaces}
 use Rattle.book.proofs.JudgingSteps.{places-end, places-wrong, places-right}
 use Rattle.book.proofs.judge.wrong_places.Statement.{statement}

@@ -4,8 +4,7 @@ use mathlib.Core.Path.{refl, sym, _∙_}
 use native.Mathlib.Omega.{arith}
 use Rattle.covering.specs.Record.{desk}
 use Rattle.covering.proofs.Bytes.{atom-used}
-use Rattle.cover.proofs.Maps.{atoms-apart, atoms-meet}
-use Rattle.cover.proofs.Maps.{placed-no}
+use Rattle.cover.proofs.Maps.{atoms-apart, atoms-meet, placed-no}
 use Rattle.cover.proofs.place.place_atom.Statement.{statement}
 use Rattle.cover.proofs.place.place_atom.Tie as tie
 

@@ -8,11 +8,9 @@ use borrow.Author.Tests.{not-true, not-false}
 use lib.Dec.{T}
 use Rattle.covering.specs.Search.{placeTerms}
 use Rattle.covering.specs.Record.{desk, argsAt, usedFirst}
-use Rattle.cover.specs.HeldMap.{partOf}
-use Rattle.cover.specs.HeldMap.{placedMap}
+use Rattle.cover.specs.HeldMap.{partOf, placedMap}
 use Rattle.covering.proofs.Bytes.{used-more, term-constant}
-use Rattle.cover.proofs.Maps.{places-end, places-short, places-clash, places-next}
-use Rattle.cover.proofs.Maps.{placed-yes, placed-no}
+use Rattle.cover.proofs.Maps.{places-end, places-short, places-clash, places-next, placed-yes, placed-no}
 use Rattle.cover.proofs.Maps.{places-done}
 use Rattle.cover.proofs.place.place_terms.Statement.{statement}
 use Rattle.cover.proofs.place.place_terms.Tie as tie

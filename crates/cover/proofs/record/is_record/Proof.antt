@@ -22,20 +22,24 @@ returns-2 c = sym (record-none desk _ (c .if2 .taken))
 returns-3 : tie.Need-returns-3
 returns-3 c = sym (record-many desk _ (omega arith) (c .if3 .taken))
 
-mul-if4 : tie.Need-mul-if4
-mul-if4 c = search needs
+shared-slice-read-width : tie.Need-shared-slice-read-width
+shared-slice-read-width c = search needs
 
-add-if4 : tie.Need-add-if4
-add-if4 c = search needs
+width-requires : tie.Need-width-requires
+width-requires c κs = search needs
 
 returns-4 : tie.Need-returns-4
-returns-4 c = sym (record-misfit desk _ (omega arith) (omega arith) (c .if4 .taken))
+returns-4 c =
+    let w = c .before .width .ensures in
+    sym (record-misfit desk _ (omega arith) (omega arith) (λ e. c .if4 .taken (e ∙ sym w)))
 
 are-atoms-requires : tie.Need-are-atoms-requires
 are-atoms-requires c κs = search needs
 
 returns-5 : tie.Need-returns-5
-returns-5 c = c .are-atoms .ensures ∙ sym (record-fits desk _ (omega arith) (omega arith) (c .before .if4 .left))
+returns-5 c =
+    let w = c .before .before .width .ensures in
+    c .are-atoms .ensures ∙ sym (record-fits desk _ (omega arith) (omega arith) (c .before .if4 .left ∙ w))
 
 pub is-record-spec : {M : Type 1} → statement M
 is-record-spec =
@@ -46,8 +50,8 @@ is-record-spec =
     cast-n
     returns-2
     returns-3
-    mul-if4
-    add-if4
+    shared-slice-read-width
+    width-requires
     returns-4
     are-atoms-requires
     returns-5)

@@ -11,8 +11,7 @@ use lib.ListN.{length, drop}
 use Rattle.covering.specs.Lists.{_∈_}
 use Rattle.covering.specs.Term.{Question}
 use Rattle.covering.specs.Search.{covers}
-use Rattle.covering.specs.Record.{desk, questionOf}
-use Rattle.covering.specs.Record.{SoundRecord}
+use Rattle.covering.specs.Record.{desk, questionOf, SoundRecord}
 use Rattle.covering.proofs.Tests.{not-true, not-false}
 use Rattle.covering.specs.Rule.{Rule}
 use Rattle.reading.specs.Book.{bookOf}

@@ -5,10 +5,10 @@ use native.Mathlib.Omega.{arith}
 use native.Mathlib.Nat.{zero-add}
 use mathlib.Core.Path.{_≡_, refl, ap, _∙_}
 use mathlib.Core.List.{List}
-use Prim.Native.Nat.{ℕ, _+_, _*_, _-_, _≤_}
+use Prim.Native.Nat.{ℕ, _-_, _≤_}
 use lib.ListN.{length, set, length-set, getD, replicate}
 use lib.Seq.{paste, paste-zero}
-use Rattle.covering.specs.Record.{desk}
+use Rattle.covering.specs.Record.{desk, width}
 use Rattle.covering.proofs.RoundTrip.{desk-apart}
 use Rattle.covering.proofs.Padded.{begun-held}
 use Rattle.covering.proofs.Slices.{paste-more}
@@ -25,17 +25,11 @@ abbrev μ-loop : tie.MeasureT-loop
 shared-slice-read-width : tie.Need-shared-slice-read-width Inv-loop μ-loop
 shared-slice-read-width c = search needs
 
-cast-width : tie.Need-cast-width Inv-loop μ-loop
-cast-width c = search needs
-
-mul-width : tie.Need-mul-width Inv-loop μ-loop
-mul-width c = search needs
-
-add-width : tie.Need-add-width Inv-loop μ-loop
-add-width c = search needs
+width-requires : tie.Need-width-requires Inv-loop μ-loop
+width-requires c κs = search needs
 
 loop-holds : tie.Need-loop-holds Inv-loop μ-loop
-loop-holds c = (search needs, refl, paste-zero (replicate 56 255) 0 (c .before .args .member .now))
+loop-holds c = (search needs, refl, paste-zero (replicate 56 255) 0 (c .before .before .before .args .member .now))
 
 shared-slice-read-copy : tie.Need-shared-slice-read-copy Inv-loop μ-loop
 shared-slice-read-copy c = search needs
@@ -53,7 +47,7 @@ loop-again : tie.Need-loop-again Inv-loop μ-loop
 loop-again c =
     let l = c .before .before in
     let i = l .loop .i in
-    let B = l .before .before .args .member .now in (
+    let B = l .before .before .before .before .args .member .now in (
       search needs,
       simp length-set (omega arith),
       ap (λ (w : List ℕ). set w i (getD B i 0)) (l .loop .inv .2)
@@ -63,11 +57,12 @@ loop-again c =
 returns : tie.Need-returns Inv-loop μ-loop
 returns c =
     let l = c .before in
-    let B = l .before .before .args .member .now in
-    let end : l .loop .i ≡ 1 + getD B 0 0 * 5 = omega arith in
+    let B = l .before .before .before .before .args .member .now in
+    let end : l .loop .i ≡ width desk (getD B 0 0) = omega (arith, l .before .width .ensures) in
     l .loop .inv .2
     ∙ ap (paste (replicate 56 255) 0 B) end
-    ∙ begun-held desk B desk-apart (l .before .before .pre) 56 (omega (arith, l .before .before .pre .most))
+    ∙ begun-held desk B desk-apart (l .before .before .before .before .pre) 56
+    (omega (arith, l .before .before .before .before .pre .most))
 
 pub copy-record-spec : {M : Type 1} → statement M
 copy-record-spec =
@@ -76,9 +71,7 @@ copy-record-spec =
     Inv-loop
     μ-loop
     shared-slice-read-width
-    cast-width
-    mul-width
-    add-width
+    width-requires
     loop-holds
     shared-slice-read-copy
     array-write-copy

@@ -6,8 +6,7 @@ use mathlib.Core.Path.{_≡_, sym, ap, _∙_, subst}
 use mathlib.Core.List.{List}
 use Prim.Native.Nat.{ℕ, _+_, _-_, _≤_, _<_}
 use lib.ListN.{drop}
-use Rattle.covering.specs.Record.{desk, questionOf}
-use Rattle.covering.specs.Record.{SoundRecord}
+use Rattle.covering.specs.Record.{desk, questionOf, SoundRecord}
 use Rattle.covering.specs.Buffer.{heldIn}
 use Rattle.covering.specs.Lists.{head}
 use Rattle.exploration.specs.Union.{membersFrom, firstAt}
@@ -46,25 +45,14 @@ loop-holds c =
     let b = c .before in
     (search needs, from-first (b .args .work .now) (b .args .filled .count) (stands-all (b .pre .0)))
 
-shared-slice-read-at : tie.Need-shared-slice-read-at Inv-loop μ-loop
-shared-slice-read-at c =
-    omega (arith, this c)
+shared-slice-read-width : tie.Need-shared-slice-read-width Inv-loop μ-loop
+shared-slice-read-width c = omega (arith, this c)
 
-cast-at : tie.Need-cast-at Inv-loop μ-loop
-cast-at c =
-    omega (arith, this c)
-
-mul-at : tie.Need-mul-at Inv-loop μ-loop
-mul-at c =
-    omega (arith, this c)
+width-requires : tie.Need-width-requires Inv-loop μ-loop
+width-requires c κs = search needs
 
 add-at : tie.Need-add-at Inv-loop μ-loop
-add-at c =
-    omega (arith, this c)
-
-add-at-2 : tie.Need-add-at-2 Inv-loop μ-loop
-add-at-2 c =
-    omega (arith, this c)
+add-at c = omega (arith, this (c .before), c .width .ensures)
 
 add-passed : tie.Need-add-passed Inv-loop μ-loop
 add-passed c = search needs
@@ -74,17 +62,19 @@ loop-less c = search needs
 
 loop-again : tie.Need-loop-again Inv-loop μ-loop
 loop-again c =
-    let l = c .before .before .before in
-    let w = l .before .before .pre .0 in
-    (search needs, from-next _ _ (l .loop .inv .1) (omega (arith, c .before .if1 .taken, w .ahead)))
+    let l = c .before .before .before .before in
+    let b = l .before .before in
+    let next = from-next _ _ (l .loop .inv .1) (omega (arith, c .before .before .if1 .taken, b .pre .0 .ahead)) in (
+      search needs,
+      subst (λ (k : ℕ). From (b .args .work .now) (b .args .filled .count) (l .loop .at + k) (l .loop .passed + 1))
+          (sym (c .width .ensures)) next,
+    )
 
 sub-copy-record : tie.Need-sub-copy-record Inv-loop μ-loop
-sub-copy-record c =
-    omega (arith, last c)
+sub-copy-record c = omega (arith, last c)
 
 part-copy-record-start : tie.Need-part-copy-record-start Inv-loop μ-loop
-part-copy-record-start c =
-    omega (arith, last c)
+part-copy-record-start c = omega (arith, last c)
 
 part-copy-record-end : tie.Need-part-copy-record-end Inv-loop μ-loop
 part-copy-record-end c = search needs
@@ -113,11 +103,9 @@ oldest-spec =
     Inv-loop
     μ-loop
     loop-holds
-    shared-slice-read-at
-    cast-at
-    mul-at
+    shared-slice-read-width
+    width-requires
     add-at
-    add-at-2
     add-passed
     loop-less
     loop-again

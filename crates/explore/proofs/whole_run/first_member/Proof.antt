@@ -5,8 +5,7 @@ use mathlib.Core.List.{List}
 use Prim.Native.Nat.{ℕ}
 use Rattle.covering.specs.Term.{Question}
 use Rattle.covering.specs.Form.{form}
-use Rattle.covering.specs.Record.{desk, questionOf}
-use Rattle.covering.specs.Record.{SoundRecord}
+use Rattle.covering.specs.Record.{desk, questionOf, SoundRecord}
 use Rattle.covering.specs.Buffer.{heldIn}
 use Rattle.explore.proofs.Records.{question-desk}
 use Rattle.covering.proofs.Padded.{desk-sound, desk-question}

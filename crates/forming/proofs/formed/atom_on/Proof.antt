@@ -12,8 +12,7 @@ use Rattle.covering.specs.Record.{desk, atomAt, atomBytes}
 use Rattle.forming.specs.Building.{subOf}
 use Rattle.covering.proofs.Lengths.{atom-long}
 use Rattle.covering.proofs.RoundTrip.{desk-apart}
-use Rattle.forming.proofs.AtomBytes.{place-byte, atom-on-relation, atom-on-place}
-use Rattle.forming.proofs.AtomBytes.{set-agrees}
+use Rattle.forming.proofs.AtomBytes.{place-byte, atom-on-relation, atom-on-place, set-agrees}
 use Rattle.forming.proofs.formed.atom_on.Statement.{statement}
 use Rattle.forming.proofs.formed.atom_on.Tie as tie
 

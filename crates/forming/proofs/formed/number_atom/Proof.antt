@@ -7,8 +7,7 @@ use mathlib.Core.List.{List}
 use Prim.Native.Nat.{ℕ, _+_, _-_, _≤_}
 use lib.Dec.{T}
 use Rattle.covering.specs.Record.{desk, argsAt, atomAt, usedFirst}
-use Rattle.forming.specs.Building.{allSeen}
-use Rattle.forming.specs.Building.{NumberTable}
+use Rattle.forming.specs.Building.{allSeen, NumberTable}
 use Rattle.covering.proofs.Bytes.{used-more, term-constant, atom-used}
 use Rattle.forming.proofs.Renaming.{seen-end, seen-more, seen-done}
 use Rattle.forming.proofs.formed.number_atom.Statement.{statement}

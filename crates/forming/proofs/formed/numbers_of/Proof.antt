@@ -9,8 +9,7 @@ use Rattle.covering.specs.Term.{terms}
 use Rattle.covering.specs.Form.{firsts}
 use Rattle.covering.specs.Record.{desk, atomsAt, questionOf}
 use Rattle.covering.specs.Buffer.{AtomsIn}
-use Rattle.forming.specs.Building.{allSeen, newNumber}
-use Rattle.forming.specs.Building.{NumberTable}
+use Rattle.forming.specs.Building.{allSeen, newNumber, NumberTable}
 use Rattle.covering.proofs.Within.{sound-in}
 use Rattle.forming.proofs.Leftward.{firsts-leftward}
 use Rattle.forming.proofs.Renaming.{numbered-none}

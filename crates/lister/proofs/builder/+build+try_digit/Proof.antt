@@ -22,15 +22,13 @@ use Rattle.covering.specs.Lists.{firstOf, numbers}
 use Rattle.covering.specs.Record.{desk, atomAt, atomsAt, questionOf}
 use Rattle.covering.specs.Term.{Question}
 use Rattle.book.specs.declared.Parts.{Parts}
-use Rattle.lister.specs.Build.{firstByDigit}
-use Rattle.lister.specs.Build.{tableBuilder}
+use Rattle.lister.specs.Build.{firstByDigit, tableBuilder}
 use mathlib.Core.List.{List}
 use Rattle.unify.specs.InBytes.{classesOf}
 use Rattle.lister.specs.Asking.{ruleOf, foundOf}
 use Rattle.unify.proofs.TableBytes.{joined-yes, joined-no}
 use Rattle.lister.proofs.Prefixes.{digits-none, digits-miss, prefix-digits, whole-sent, whole-unsent}
-use Rattle.lister.proofs.RewritingBytes.{first-fits}
-use Rattle.lister.proofs.RewritingBytes.{first-atom-in}
+use Rattle.lister.proofs.RewritingBytes.{first-fits, first-atom-in}
 use Rattle.lister.proofs.Asked.{found-first, missed-none, left-room, left-put, nth-sound, joined-fit}
 use Rattle.lister.proofs.Asked.{child-number, child-left, child-sent, heads-are, skipped, left-at, clash-at}
 use Rattle.lister.proofs.Asked.{sent-at, nth-fits, child-small}

@@ -1,4 +1,4 @@
--- `unify::builder::judged` meets its contract: before the start nothing, nothing where the choice is not valid, else
+-- `lister::builder::judged` meets its contract: before the start nothing, nothing where the choice is not valid, else
 -- its rewriting.
 use borrow.Author.Needs.{needs}
 use mathlib.Core.Bool.{true}
@@ -33,7 +33,6 @@ nothing-requires-2 : tie.Need-nothing-requires-2
 nothing-requires-2 c κs = search needs
 
 returns-2 : tie.Need-returns-2
-unfolding questionOf
 returns-2 c =
     let a = c .before .before .before .before .before .args in
     let v = c .before .before .is-valid in
@@ -47,7 +46,6 @@ rewriting-requires : tie.Need-rewriting-requires
 rewriting-requires c κs = search needs
 
 returns-3 : tie.Need-returns-3
-unfolding questionOf
 returns-3 c =
     let a = c .before .before .before .before .before .args in
     let v = c .before .before .is-valid in

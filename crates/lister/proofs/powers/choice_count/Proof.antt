@@ -7,8 +7,6 @@ use mathlib.Core.Bool.{Bool}
 use mathlib.Core.List.{List, [], _∷_}
 use Prim.Native.Nat.{ℕ, suc, _-_, _^_}
 use lib.ListN.{getD}
-use mathlib.Core.Path.{_≡_}
-use Prim.Native.Nat.{suc, _-_}
 use lib.Dec.{eqb, eqb→eq}
 use Rattle.unify.proofs.Each.{below, at}
 use Rattle.lister.proofs.powers.choice_count.Statement.{statement}

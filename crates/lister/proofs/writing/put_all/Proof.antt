@@ -12,8 +12,7 @@ use Rattle.lister.specs.Asking.{Filling}
 use lib.ListN.{length}
 use borrow.Author.Needs.{needs}
 use Rattle.lister.proofs.RewritingBytes.{rest-in, first-fits, atom-on, filling-room, filling-put, put-more}
-use Rattle.lister.proofs.RewritingBytes.{first-atom-in}
-use Rattle.lister.proofs.RewritingBytes.{put-none}
+use Rattle.lister.proofs.RewritingBytes.{first-atom-in, put-none}
 use Rattle.lister.proofs.writing.put_all.Statement.{statement}
 use Rattle.lister.proofs.writing.put_all.Tie as tie
 

@@ -6,8 +6,7 @@ use mathlib.Core.Option.{some}
 use Rattle.covering.specs.Record.{termOf}
 use Rattle.unify.specs.Table.{joinTable}
 use Rattle.unify.specs.InBytes.{classesOf}
-use Rattle.unify.proofs.TableBytes.{join-self, join-variable, join-constant, join-clash}
-use Rattle.unify.proofs.TableBytes.{joined-yes, joined-no}
+use Rattle.unify.proofs.TableBytes.{join-self, join-variable, join-constant, join-clash, joined-yes, joined-no}
 use Rattle.unify.proofs.joining.join.Statement.{statement}
 use Rattle.unify.proofs.joining.join.Tie as tie
 

@@ -16,8 +16,7 @@ use Rattle.covering.proofs.Bytes.{used-more, term-constant}
 use Rattle.unification.specs.Choice.{placePairs}
 use Rattle.unification.specs.Step.{up}
 use Rattle.unify.specs.Table.{look, joinTable, unifyTable}
-use Rattle.unify.specs.InBytes.{inBook, classesOf}
-use Rattle.unify.specs.InBytes.{joinedTable}
+use Rattle.unify.specs.InBytes.{inBook, classesOf, joinedTable}
 use Rattle.unify.proofs.TableBytes.{joined-yes, joined-no}
 use Rattle.unify.proofs.Joins.{joins-done, joins-end, joins-short, joins-clash, joins-next}
 use Rattle.unify.proofs.joining.join_places.Statement.{statement}

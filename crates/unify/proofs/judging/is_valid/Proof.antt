@@ -2,26 +2,26 @@
 -- of the head atoms from here on is allowed, and these atoms are sound. The measure is their number.
 use borrow.Author.Needs.{needs}
 use native.Mathlib.Omega.{arith}
-use mathlib.Core.Path.{_≡_, refl, sym, _∙_}
+use mathlib.Core.Path.{_≡_, refl, sym, _∙_, ap}
 use borrow.Author.Tests.{not-true, not-false}
 use Rattle.covering.specs.Lists.{all}
-use Rattle.covering.specs.Term.{on-question, terms}
-use Rattle.covering.specs.Record.{desk, atomsAt}
+use Rattle.covering.specs.Term.{Question, on-question, terms}
+use Rattle.covering.specs.Record.{desk, atomsAt, questionOf}
 use Rattle.covering.specs.Buffer.{AtomsIn}
 use Rattle.covering.proofs.Bytes.{atom-used}
-use Rattle.covering.proofs.Places.{sound-more}
+use Rattle.covering.proofs.Places.{sound-more, question-at}
 use Rattle.unification.specs.Step.{up, move, valid}
 use Rattle.unify.specs.Table.{tabled}
 use Rattle.unify.specs.InBytes.{inBook, ruleIn, classesOf}
 use Rattle.unify.proofs.EachTerm.{each-term-none, each-term-fails, each-term-passes}
-use Rattle.unify.proofs.ValidTests.{leftIn, allowedByte}
+use Rattle.unify.proofs.ValidTests.{allowedByte}
 use Rattle.unify.proofs.judging.is_valid.Statement.{statement}
 use Rattle.unify.proofs.judging.is_valid.Tie as tie
 
 abbrev Inv-loop : tie.InvT-loop
 Inv-loop book body bodies head heads table left at₀ more₀ at more =
     AtomsIn inBook book at more
-    × (valid (tabled (classesOf table)) (leftIn left) (move 32 (ruleIn book body bodies head heads))
+    × (valid (tabled (classesOf table)) (questionOf desk left) (move 32 (ruleIn book body bodies head heads))
     ≡ all
     (allowedByte left book body bodies head heads table)
     (terms (on-question (up 32) (atomsAt desk book at more))))
@@ -31,7 +31,10 @@ abbrev μ-loop : tie.MeasureT-loop
 
 loop-holds : tie.Need-loop-holds Inv-loop μ-loop
 unfolding ruleIn
-loop-holds c = (c .before .pre .2, refl)
+loop-holds c =
+    let a = c .before .args in
+    let r = move 32 (ruleIn (a .book .now) (a .body) (a .bodies) (a .head) (a .heads)) in
+    (c .before .pre .2, ap (λ (L : Question). valid (tabled (classesOf (a .table))) L r) (question-at desk (a .t1) refl))
 
 slice-aggregate-allowed-places : tie.Need-slice-aggregate-allowed-places Inv-loop μ-loop
 slice-aggregate-allowed-places c = search needs
