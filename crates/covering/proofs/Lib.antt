@@ -11,6 +11,7 @@ pub mod Decides
 pub mod First
 -- the form of a question
 pub mod Form
+pub mod Sifted
 pub mod SameForm
 pub mod FormSizes
 -- a record's bytes: place by place, atom by atom, copied, as long as they are, there and back

@@ -3,14 +3,15 @@
 -- Relations are numbered in order of appearance in an example, x, y, z are the rule's variables 0, 1, 2.
 use mathlib.Core.Path.{_≡_}
 use mathlib.Core.Bool.{Bool, true, false}
-use mathlib.Core.List.{List, [], _∷_, _++_}
+use mathlib.Core.List.{List, [], _∷_, _++_, map}
 use Prim.Native.Nat.{ℕ}
 use lib.ListN.{length, take, replicate}
 use Rattle.covering.specs.Lists.{gather}
-use Rattle.covering.specs.Term.{Term, var, con, Question}
+use Rattle.covering.specs.Term.{Term, con, Question}
 use Rattle.covering.specs.Search.{covers}
 use Rattle.covering.specs.Rule.{Rule}
-use Rattle.unification.specs.Examples.{at1, at2}
+use Rattle.unification.specs.Examples.{StepExample, at1, at2, v0, v1, example4, example5, example6, example7, example8}
+use Rattle.unification.specs.Examples.{example9}
 use Rattle.exploration.specs.Run.{Limits, Outcome, complete, allRewritings, runBy, run}
 use Rattle.exploration.specs.Union.{outputSize, wordBytes}
 use Rattle.exploration.specs.Answer.{result, answer, written}
@@ -55,52 +56,19 @@ abbrev pub Each : {A : Type 0} → (A → Type 0) → List A → Type 0
 Each P [] = Unit {0}
 Each P (x ∷ xs) = P x × Each P xs
 
-abbrev pub v0 : Term
-v0 = var 0
-
-abbrev pub v1 : Term
-v1 = var 1
-
-abbrev pub v2 : Term
-v2 = var 2
-
 abbrev pub c0 : Term
 c0 = con 0
 
 abbrev pub rule : Question → Question → Rule
 rule b h = record { body = b; head = h }
 
--- "person(x) to parent(x,y)"
-abbrev person : Rule
-person = rule (at1 0 v0 ∷ []) (at2 1 v0 v1 ∷ [])
+-- one of `unification`'s
+abbrev pub rewritten : StepExample → Example
+rewritten e = rewriting (e .rule) (e .question) (map (λ x. x .1) (e .listing))
 
--- "b(x) to r(x,y) r(y,z) r(z,x)"
-abbrev rule6 : Rule
-rule6 = rule (at1 0 v0 ∷ []) (at2 1 v0 v1 ∷ at2 1 v1 v2 ∷ at2 1 v2 v0 ∷ [])
-
--- "b(x) to r(x,y) r(y,x); question r(v0,v1) r(v1,v2) r(v2,v0)"
-abbrev rule7 : Rule
-rule7 = rule (at1 0 v0 ∷ []) (at2 1 v0 v1 ∷ at2 1 v1 v0 ∷ [])
-
-abbrev question7 : Question
-question7 = at2 1 v0 v1 ∷ at2 1 v1 v2 ∷ at2 1 v2 v0 ∷ []
-
+-- "three choices, each r(v0,v0) b(v0)"
 abbrev made7 : Question
 made7 = at2 1 v0 v0 ∷ at1 0 v0 ∷ []
-
--- "twin(x,y) to m(z,x) m(z,y); question m(v0,v1) m(v0,v2)"
-abbrev rule8 : Rule
-rule8 = rule (at2 0 v0 v1 ∷ []) (at2 1 v2 v0 ∷ at2 1 v2 v1 ∷ [])
-
-abbrev made8 : Question
-made8 = at2 0 v0 v1 ∷ []
-
--- "s(x) to p(x,x); question p(v0,v1) p(v1,v0)"
-abbrev pub rule9 : Rule
-rule9 = rule (at1 0 v0 ∷ []) (at2 1 v0 v0 ∷ [])
-
-abbrev pub question9 : Question
-question9 = at2 1 v0 v1 ∷ at2 1 v1 v0 ∷ []
 
 -- "The starred examples are one list with a single theorem."
 unfoldable pub examples : List Example
@@ -113,20 +81,18 @@ examples =
     ∷ covering (at1 0 c0 ∷ []) (at1 0 v0 ∷ []) false
     -- 3. "p(v0,v1) p(v1,v0) covers p(c0,c0)."
     ∷ covering (at2 0 v0 v1 ∷ at2 0 v1 v0 ∷ []) (at2 0 c0 c0 ∷ []) true
-    -- 4. "question parent(v0,c0): no valid choice."
-    ∷ rewriting person (at2 1 v0 c0 ∷ []) []
-    -- 5. "The same rule; question parent(v0,v1) dentist(v1): none."
-    ∷ rewriting person (at2 1 v0 v1 ∷ at1 2 v1 ∷ []) []
-    -- 6. "b(x) to r(x,y) r(y,z) r(z,x); question r(v0,v1) r(v1,v0): none."
-    ∷ rewriting rule6 (at2 1 v0 v1 ∷ at2 1 v1 v0 ∷ []) []
+    -- 4 to 6, with no valid choice, are `unification`'s
+    ∷ rewritten example4
+    ∷ rewritten example5
+    ∷ rewritten example6
     -- 7. "three choices, each r(v0,v0) b(v0). The question covers it: one member."
-    ∷ rewriting rule7 question7 (made7 ∷ made7 ∷ made7 ∷ [])
-    ∷ covering question7 made7 true
-    ∷ running (rule7 ∷ []) 10 question7 (complete (question7 ∷ []) 1)
+    ∷ rewritten example7
+    ∷ covering (example7 .question) made7 true
+    ∷ running (example7 .rule ∷ []) 10 (example7 .question) (complete (example7 .question ∷ []) 1)
     -- 8. "four choices, each twin(v0,v1)."
-    ∷ rewriting rule8 (at2 1 v0 v1 ∷ at2 1 v0 v2 ∷ []) (made8 ∷ made8 ∷ made8 ∷ made8 ∷ [])
+    ∷ rewritten example8
     -- 9. "members are the question and s(v0)."
-    ∷ running (rule9 ∷ []) 10 question9 (complete (question9 ∷ (at1 0 v0 ∷ []) ∷ []) 2)
+    ∷ running (example9 .rule ∷ []) 10 (example9 .question) (complete (example9 .question ∷ (at1 0 v0 ∷ []) ∷ []) 2)
     ∷ []
 
 -- a book's answer with an output of 2,632 bytes, and the output's first bytes

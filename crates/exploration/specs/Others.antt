@@ -7,10 +7,10 @@ use Rattle.covering.specs.Lists.{gather, numbers}
 use Rattle.covering.specs.Term.{con, Question}
 use Rattle.covering.specs.Record.{desk, atomBytes}
 use Rattle.covering.specs.Rule.{Rule}
-use Rattle.unification.specs.Examples.{at1, at2}
+use Rattle.unification.specs.Examples.{at1, at2, v0, v1, v2, example9}
 use Rattle.exploration.specs.Run.{too-long, none-left, refused}
-use Rattle.exploration.specs.Examples.{BookExample, Example, rewriting, limited, answering, v0, v1, v2, c0, rule}
-use Rattle.exploration.specs.Examples.{rule9, question9, answered, untouched, header}
+use Rattle.exploration.specs.Examples.{BookExample, Example, limited, answering, rewritten, c0, rule}
+use Rattle.exploration.specs.Examples.{answered, untouched, header}
 use Rattle.exploration.specs.Examples.{printed-book, printed-once, depth-two}
 
 -- a stored book: its relations' places, how many constants, the explorations allowed, its rules and its question
@@ -80,9 +80,7 @@ oldest-first =
 -- "choices in theirs": of example 9 the choices of one piece, 0 1 and 1 0, come before the choice of both, 1 1. In
 -- descending order they would come after it.
 abbrev pub choices-in-order : Example
-choices-in-order =
-    let one-piece = at2 1 v0 v0 ∷ at1 0 v0 ∷ [] in
-    rewriting rule9 question9 (one-piece ∷ one-piece ∷ (at1 0 v0 ∷ []) ∷ [])
+choices-in-order = rewritten example9
 
 -- "it still counts as explored": p0(x) to p1(x), question p0(v0) p1(v0). Its rewriting p0(v0) covers it. There is one
 -- member and two are explored; if the members were counted it would be one.

@@ -2,13 +2,13 @@
 -- `next`'s (`next-built`). A prefix whose choices all lie before the start gives nothing (`first-skips`). Assumes
 -- nothing.
 use mathlib.Core.Path.{_≡_, refl, sym, _∙_, ap, ap₂}
-use mathlib.Core.Bool.{Bool, true, false, cond, not, _||_}
+use mathlib.Core.Bool.{Bool, true, false, cond, _||_}
 use mathlib.Core.List.{List, [], _∷_, _++_, map, append-nil}
 use mathlib.Core.Option.{Option, some, none}
 use Prim.Native.Nat.{ℕ, zero, suc, _+_, _<_, _≤_, _*_}
-use native.Mathlib.Nat.{suc-mul, zero-mul, mul-one, mul-assoc, add-mul, mul-le-mul-right, pow-zero}
+use native.Mathlib.Nat.{suc-mul, zero-mul, mul-one, mul-assoc, mul-le-mul-right, pow-zero}
 use native.Mathlib.Omega.{arith}
-use lib.Dec.{eqb·suc-zero, leb, leb→le}
+use lib.Dec.{leb, leb→le}
 use lib.ListN.{length}
 use lib.Seq.{append-snoc}
 use Rattle.covering.specs.Lists.{keep, head, push, bind, firstOf, collect, numbers}
@@ -23,33 +23,7 @@ use Rattle.unification.proofs.Collected.{gather-same, passing, collect-same, co
 use Rattle.unification.proofs.Collected.{collect-gather, collect-map, head-gather, firstOf-same, firstOf-none}
 use Rattle.unification.proofs.Numbers.{count-suc}
 use Rattle.covering.proofs.Lists.{numbers-below}
-
--- the number of a choice, w being that of the digits before it
-abbrev pub numberFrom : ℕ → ℕ → Choice → ℕ
-numberFrom h w [] = w
-numberFrom h w (d ∷ ds) = numberFrom h (w * suc h + d) ds
-
-pub number-from : (h w : ℕ) (ds : Choice) → numberFrom h w ds ≡ w * count h (length ds) + number h ds
-number-from h w [] =
-    let one : count h 0 ≡ 1 = pow-zero (suc h) in
-    let e : w * count h 0 ≡ w * 1 = ap (λ (x : ℕ). w * x) one in
-    let f : w * 1 ≡ w = mul-one w in
-    omega arith
-number-from h w (d ∷ ds) =
-    let c : ℕ = count h (length ds) in
-    let one : numberFrom h (w * suc h + d) ds ≡ (w * suc h + d) * c + number h ds =
-    number-from h (w * suc h + d) ds in
-    let two : (w * suc h + d) * c ≡ w * suc h * c + d * c = add-mul (w * suc h) d c in
-    let three : w * suc h * c ≡ w * (suc h * c) = mul-assoc w (suc h) c in
-    let four : w * count h (suc (length ds)) ≡ w * (suc h * c) = ap (λ (x : ℕ). w * x) (count-suc h (length ds)) in
-    omega arith
-
-or-true : (b : Bool) → b || true ≡ true
-or-true true = refl
-or-true false = refl
-
-sends-some : (b : Bool) (e : ℕ) (ds : Choice) → b || someSent (suc e ∷ ds) ≡ true
-sends-some b e ds = ap (λ (c : Bool). b || (not c || someSent ds)) (eqb·suc-zero e) ∙ or-true b
+use Rattle.lister.proofs.NumberFrom.{numberFrom, number-from, sends-some}
 
 module _ {C X : Type 0} (B : Builder C X) where
   -- the classes with all that a choice sends put in

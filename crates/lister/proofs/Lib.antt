@@ -1,12 +1,15 @@
 -- The laws that the lister's functions cite.
 
 -- the builder and its table do what the definitions say
+pub mod NumberFrom
 pub mod Build
 pub mod Table
 -- what the code holds in bytes
 pub mod Entries
 pub mod Prefixes
+pub mod Halves
 pub mod RewritingBytes
+pub mod LeftAtoms
 pub mod Asked
 -- a sound book gives what the lister asks for; any two results of a contract are equal
 pub mod FromBook

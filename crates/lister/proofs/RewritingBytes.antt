@@ -1,16 +1,13 @@
 -- Laws of the rewriting as it is written: atoms put one after the other, each class replaced by what stands for it.
 -- Assumes nothing.
 use mathlib.Core.Path.{_≡_, refl, sym, _∙_, ap, ap₂, subst}
-use mathlib.Core.List.{List, [], _∷_, _++_, map, append-assoc, append-nil, map-map, List·Memᴰ·head, List·Memᴰ·tail}
-use mathlib.Core.List.{List·Memᴰ·append-cases, List·Memᴰ·cases-cons, List·Memᴰ·not-nil, Memᴰ·of-map}
-use mathlib.Core.Bool.{true, false}
+use mathlib.Core.List.{List, [], _∷_, _++_, append-assoc, append-nil, map-map}
+use mathlib.Core.List.{List·Memᴰ·append-cases, List·Memᴰ·not-nil, Memᴰ·of-map}
 use mathlib.Core.Logic.{_⊎_, inl, inr}
-use Prim.Native.Nat.{ℕ, zero, suc, _+_, _-_, _≤_, _<_}
+use Prim.Native.Nat.{ℕ, _+_, _-_, _≤_, _<_}
 use native.Mathlib.Omega.{arith}
-use borrow.Author.Tests.{eqb-true, eqb-false, ltb-true, ltb-false}
-use lib.Dec.{T, eqb, ltb}
-use lib.ListN.{length, getD, set, length-map, length-append, length-set}
-use lib.Seq.{getD-set-same, getD-set-other}
+use lib.Dec.{T}
+use lib.ListN.{length, getD, length-map, length-append}
 use Rattle.covering.specs.Lists.{_∈_}
 use Rattle.covering.specs.Term.{Term, var, con, Atom, Question, Sub, on-term, on-atom, on-question, comp}
 use Rattle.covering.specs.Record.{desk, size, termOf, atomAt, atomsAt, questionOf, areAtoms, TermFits, AtomFits}
@@ -18,7 +15,6 @@ use Rattle.covering.specs.Record.{SoundRecord}
 use Rattle.covering.specs.Buffer.{heldIn, AtomIn, AtomsIn, RoomLeft}
 use Rattle.forming.specs.Building.{subOf}
 use Rattle.covering.proofs.Lists.{map-same, map-append}
-use Rattle.covering.proofs.Tests.{either}
 use Rattle.covering.proofs.Terms.{on-atom-comp, on-atom-same}
 use Rattle.covering.proofs.Places.{atoms-none, atoms-more, sound-more, question-at}
 use Rattle.covering.proofs.RoundTrip.{TellsApart, desk-apart}
@@ -35,6 +31,7 @@ use Rattle.unify.specs.Table.{tabled}
 use Rattle.unify.specs.InBytes.{inBook, classesOf, ruleIn}
 use Rattle.lister.specs.Asking.{ruleOf, ClassesFit, Filling, UpperHalf, LeftIn, RuleIn}
 use Rattle.unify.proofs.TableBytes.{classes-at}
+use Rattle.lister.proofs.Halves.{upper-fits, in-classes}
 
 -- a book's atoms keep to the desk's layout
 pub book-desk : Wider inBook desk
@@ -63,11 +60,6 @@ all-fit B i n s a m =
 
 -- what the table has for a variable
 module _ (table : List ℕ) (fit : ClassesFit table) (long : length table ≡ 64) where
-  in-classes : (m : List ℕ) (n : ℕ) → n < length m → termOf (getD m n 0) ∈ classesOf m
-  unfolding classesOf
-  in-classes (x ∷ m) zero h = List·Memᴰ·head refl
-  in-classes (x ∷ m) (suc n) h = List·Memᴰ·tail (in-classes m n (omega arith))
-
   sub-fits : (n : ℕ) → n < 64 → TermFits desk (subOf table n)
   sub-fits n h =
       subst (TermFits desk) (sym (table-at table n)) (fit (termOf (getD table n 0)) (in-classes table n (omega arith)))
@@ -140,61 +132,6 @@ put-none s A F i n k e f =
     f .holds
     ∙ ap (heldIn desk 56)
     (sym (ap (λ q. questionOf desk A ++ on-question s q) (atoms-none desk F i n e) ∙ append-nil (questionOf desk A)))
-
--- the upper half, of which the first i entries are moved down
-pub record Half (table upper : List ℕ) (i : ℕ) : Type 0 where
-  pub moved : (n : ℕ) → n < i → getD upper n 0 ≡ getD table (n + 32) 0
-  pub others : (n : ℕ) → i ≤ n → getD upper n 0 ≡ getD table n 0
-  pub size : length upper ≡ length table
-
-pub half-none : (table : List ℕ) → Half table table 0
-half-none table = record { moved = λ n h. absurd (omega arith); others = λ n h. refl; size = refl }
-
-pub half-more : (table upper : List ℕ) (i : ℕ) → i < length upper → Half table upper i
-    → Half table (set upper i (getD table (i + 32) 0)) (i + 1)
-half-more table upper i h f =
-    record {
-      moved = λ n lt. go n lt (either (eqb n i));
-      others = λ n le. getD-set-other upper i n _ 0 (λ e. omega arith) ∙ f .others n (omega arith);
-      size = length-set upper i _ ∙ f .size;
-    }
-  where
-    go : (n : ℕ) → n < i + 1 → (eqb n i ≡ true) ⊎ (eqb n i ≡ false)
-        → getD (set upper i (getD table (i + 32) 0)) n 0 ≡ getD table (n + 32) 0
-    go n lt (inl e) = rw (eqb-true n i e) (getD-set-same upper i (getD table (i + 32) 0) 0 h)
-    go n lt (inr e) =
-        let ne = eqb-false n i e in
-        getD-set-other upper i n (getD table (i + 32) 0) 0 ne ∙ f .moved n (omega arith)
-
-pub half-all : (table upper : List ℕ) (i : ℕ) → i ≡ 32 → Half table upper i → UpperHalf table upper
-half-all table upper i e f =
-    record {
-      moved = λ n h. f .moved n (omega arith);
-      others = λ n h. f .others n (omega arith);
-      size = f .size;
-    }
-
--- a table whose every entry fits
-fits-all : (m : List ℕ) → ((n : ℕ) → n < length m → TermFits desk (termOf (getD m n 0))) → ClassesFit m
-unfolding classesOf
-fits-all [] f t i = absurd (List·Memᴰ·not-nil i)
-fits-all (x ∷ m) f t i = go (List·Memᴰ·cases-cons i) (λ j. fits-all m (λ n h. f (suc n) (omega arith)) t j)
-  where
-    go : (t ≡ termOf x) ⊎ (t ∈ map termOf m) → (t ∈ map termOf m → TermFits desk t) → TermFits desk t
-    go (inl e) below = subst (TermFits desk) (sym e) (f 0 (omega arith))
-    go (inr j) below = below j
-
-pub upper-fits : (table upper : List ℕ) → ClassesFit table → length table ≡ 64 → UpperHalf table upper → ClassesFit upper
-upper-fits table upper fit long u = fits-all upper (λ n h. go n (omega (arith, u .size)) (either (ltb n 32)))
-  where
-    at : (n : ℕ) → n < 64 → TermFits desk (termOf (getD table n 0))
-    at n h = fit (termOf (getD table n 0)) (in-classes table fit long table n (omega arith))
-
-    go : (n : ℕ) → n < 64 → (ltb n 32 ≡ true) ⊎ (ltb n 32 ≡ false) → TermFits desk (termOf (getD upper n 0))
-    go n h (inl e) =
-        let lt = ltb-true n 32 e in
-        subst (λ b. TermFits desk (termOf b)) (sym (u .moved n lt)) (at (n + 32) (omega arith))
-    go n h (inr e) = subst (λ b. TermFits desk (termOf b)) (sym (u .others n (ltb-false n 32 e))) (at n h)
 
 -- two substitutions that agree on the variables of a book's atoms
 on-question-same : (s t : Sub) (A : Question) → ((a : Atom) → a ∈ A → AtomFits inBook a)

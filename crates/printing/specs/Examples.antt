@@ -6,15 +6,15 @@ use Rattle.printing.specs.Printed.{ascii}
 use Rattle.printing.specs.Answer.{linesOf, textSize}
 
 -- a book's bytes, and the text
-pub record Example : Type 0 where
+pub record PrintedExample : Type 0 where
   pub book : List ℕ
   pub text : List ℕ
 
 -- the same with the text that the definitions say
-abbrev pub shown : Example → Example
+abbrev pub shown : PrintedExample → PrintedExample
 shown e = record { book = e .book; text = linesOf (e .book) textSize }
 
-unfoldable pub examples : List Example
+unfoldable pub examples : List PrintedExample
 examples =
     -- "it prints"
     record { book = printed-book .book; text = ascii "members 2 explored 2\nr1(v0) r2(v1,v0)\nr0(v0)\n" }

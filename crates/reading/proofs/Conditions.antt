@@ -1,18 +1,18 @@
 -- Each test of `Verdict` is passed exactly where the condition of its number in `Refusals` does not apply, and each
 -- search finds the earliest place at which it does. Assumes nothing.
 use mathlib.Core.Path.{_≡_, refl, sym, subst}
-use mathlib.Core.Bool.{Bool, true, false, not, _&&_}
+use mathlib.Core.Bool.{Bool, true, false, not}
 use mathlib.Core.Logic.{_⊎_, inl, inr}
 use mathlib.Core.List.{List}
 use mathlib.Core.Option.{none}
 use Prim.Native.Nat.{ℕ, zero, suc, _+_, _*_, _-_, _≤_, _<_}
 use native.Mathlib.Omega.{arith}
-use lib.Dec.{T, eqb, leb, eqb→eq, eqb-refl, le→leb, leb→le}
+use lib.Dec.{T, eqb, leb, eqb→eq, leb→le}
 use lib.ListN.{length}
-use Rattle.covering.proofs.Tests.{decide, clash, both, fst-of, snd-of, none≢some, le-or-lt}
+use Rattle.covering.proofs.Tests.{decide, clash, fst-of, snd-of, none≢some, le-or-lt}
 use Rattle.reading.specs.Word.{byte}
 use Rattle.reading.specs.Header.{headerSize, relations, constants, rules, atoms, allowed, relationsAt, rulesAt}
-use Rattle.reading.specs.Header.{questionAt, headerOf, Range, Outside, inside, relationsRange, totalWord}
+use Rattle.reading.specs.Header.{questionAt, headerOf, inside, relationsRange, totalWord}
 use Rattle.reading.specs.Header.{constantsRange, rulesRange, atomsRange, allowedRange, placesRange, bodyRange}
 use Rattle.reading.specs.Header.{headRange, atomSize}
 use Rattle.reading.specs.Book.{bodyCount, headCount, bodyAt, ruleEnd, after, rulesStart, ruleStart}
@@ -24,40 +24,7 @@ use Rattle.reading.specs.Verdict.{unless, inTable, offsetsRight, wrongPl
 use Rattle.reading.proofs.Earliest.{Earliest, holds-nowhere, earliest-same, earliest-test, earliest-else}
 use Rattle.reading.proofs.Found.{PlacesFrom, places-earliest, RulesFrom, rules-earliest, AtomsFrom}
 use Rattle.reading.proofs.Found.{atoms-earliest, atoms-from, RuleBytes, bytes-earliest, bytes-to}
-
--- ranges
-pub inside-in : (r : Range) {n : ℕ} → T (inside r n) → (r .least ≤ n) × (n ≤ r .most)
-inside-in r {n} t =
-    let low = leb (r .least) n in
-    let high = leb n (r .most) in
-    (leb→le _ _ (fst-of low high t), leb→le _ _ (snd-of low high t))
-
-inside-not : (r : Range) {n : ℕ} → T (inside r n) → Outside r n → ⊥
-inside-not r t (inl l) = let h = inside-in r t in omega arith
-inside-not r t (inr l) = let h = inside-in r t in omega arith
-
-outside : (r : Range) {n : ℕ} → (T (inside r n) → ⊥) → Outside r n
-outside r {n} f = go (le-or-lt (r .least) n) (le-or-lt n (r .most))
-  where
-    go : (r .least ≤ n) ⊎ (n < r .least) → (n ≤ r .most) ⊎ (r .most < n) → Outside r n
-    go (inl a) (inl b) = absurd (f (both (leb (r .least) n) (leb n (r .most)) (le→leb _ _ a) (le→leb _ _ b)))
-    go (inl a) (inr b) = inr b
-    go (inr a) c = inl a
-
--- what follows where the first part of a test is not passed, and where the second is not
-either : {W : Type 0} (a b : Bool) → ((T a → ⊥) → W) → ((T b → ⊥) → W) → (T (a && b) → ⊥) → W
-either true b f g h = g h
-either false b f g h = f (λ t. t)
-
-eq-not : {m n : ℕ} → (T (eqb m n) → ⊥) → m ≡ n → ⊥
-eq-not {m} f e = f (subst (λ (k : ℕ). T (eqb m k)) e (eqb-refl m))
-
-le-not : {m n : ℕ} → (T (leb m n) → ⊥) → n < m
-le-not {m} {n} f = go (le-or-lt m n)
-  where
-    go : (m ≤ n) ⊎ (n < m) → n < m
-    go (inl l) = absurd (f (le→leb m n l))
-    go (inr l) = l
+use Rattle.reading.proofs.Ranges.{inside-not, outside, either, eq-not, le-not}
 
 module _ (B : List ℕ) where
   -- 2

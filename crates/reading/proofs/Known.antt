@@ -9,7 +9,8 @@ use Rattle.reading.specs.declared.Header.{Header}
 use Rattle.reading.specs.Header.{headerSize, headerOf, atomSize}
 use Rattle.reading.specs.Header.{relationsRange, constantsRange, rulesRange, atomsRange, allowedRange}
 use Rattle.reading.specs.Verdict.{inTable, offsetsRight}
-use Rattle.reading.proofs.Conditions.{inside-in, in-table, offsets-right}
+use Rattle.reading.proofs.Conditions.{in-table, offsets-right}
+use Rattle.reading.proofs.Ranges.{inside-in}
 
 pub record HeaderKnown (B : List ℕ) (h : Header) : Type 0 where
   pub some-relation : 1 ≤ h .relations

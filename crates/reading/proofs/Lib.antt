@@ -4,6 +4,7 @@
 pub mod After
 pub mod Earliest
 pub mod Found
+pub mod Ranges
 pub mod Conditions
 -- the verdict is exact
 pub mod Exact

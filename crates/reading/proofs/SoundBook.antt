@@ -27,7 +27,8 @@ use Rattle.reading.specs.Verdict.{SoundBook}
 use Rattle.reading.proofs.Earliest.{Earliest, holds-nowhere}
 use Rattle.reading.proofs.Found.{PlacesFrom, places-earliest, AtomsFrom, atoms-earliest, RuleBytes}
 use Rattle.reading.proofs.Found.{bytes-earliest}
-use Rattle.reading.proofs.Conditions.{inside-in, rule-right, rules-right, unless-none}
+use Rattle.reading.proofs.Conditions.{rule-right, rules-right, unless-none}
+use Rattle.reading.proofs.Ranges.{inside-in}
 use Rattle.reading.proofs.Exact.{number-from, rules-end-at, verdict-exact}
 use Rattle.reading.proofs.Known.{HeaderKnown, header-known}
 

@@ -3,13 +3,13 @@ use mathlib.Core.Path.{_≡_, refl}
 use mathlib.Core.List.{map}
 use Rattle.covering.specs.Form.{form}
 use Rattle.unification.specs.Step.{step, listed}
-use Rattle.unification.specs.Examples.{examples, more-examples}
+use Rattle.unification.specs.Examples.{starred, from-sources}
 
-pub examples-hold : map (λ e. listed 32 (e .rule) (e .question)) examples ≡ map (λ e. e .listing) examples
-unfolding examples listed step form
-examples-hold = refl
+pub starred-hold : map (λ e. listed 32 (e .rule) (e .question)) starred ≡ map (λ e. e .listing) starred
+unfolding starred listed step form
+starred-hold = refl
 
-pub more-examples-hold : map (λ e. listed 32 (e .rule) (e .question)) more-examples
-    ≡ map (λ e. e .listing) more-examples
-unfolding more-examples listed step form
-more-examples-hold = refl
+pub sources-hold : map (λ e. listed 32 (e .rule) (e .question)) from-sources
+    ≡ map (λ e. e .listing) from-sources
+unfolding from-sources listed step form
+sources-hold = refl

@@ -15,6 +15,7 @@ pub mod Listed
 pub mod Numbers
 pub mod Following
 pub mod Sizes
+pub mod Renamed
 pub mod Shift
 -- a step is sound and complete for rule application
 pub mod StepSound

@@ -1,97 +1,36 @@
 -- How far a rule's variables are moved does not matter, as long as it is above the question's variables: the number
 -- k that keeps them apart changes no rewriting (`listed-shift`). Assumes nothing.
 use mathlib.Core.Path.{_≡_, refl, sym, _∙_, ap, ap₂, subst}
-use mathlib.Core.Bool.{Bool, true, false, cond, not, _&&_, _||_}
+use mathlib.Core.Bool.{Bool, cond, not, _&&_, _||_}
 use mathlib.Core.Logic.{_⊎_, inl, inr}
-use mathlib.Core.List.{List, [], _∷_, _++_, map, map-map, List·Memᴰ·head, List·Memᴰ·tail, List·Memᴰ·append-cases}
-use mathlib.Core.List.{List·Memᴰ·not-nil, Memᴰ·append-left, Memᴰ·append-right, Memᴰ·map, Memᴰ·of-map, Memᴰ·cast}
+use mathlib.Core.List.{List, _++_, map, map-map, List·Memᴰ·append-cases}
+use mathlib.Core.List.{Memᴰ·append-right, Memᴰ·map, Memᴰ·of-map, Memᴰ·cast}
 use mathlib.Core.Option.{Option, some, Option·some-injective, none}
-use Prim.Native.Nat.{ℕ, zero, suc, _-_}
-use lib.Dec.{ltb}
+use Prim.Native.Nat.{ℕ, _-_}
 use lib.ListN.{length}
 use Rattle.covering.specs.Form.{form}
 use Rattle.covering.proofs.SameForm.{Alike}
 use Rattle.covering.specs.Lists.{_∈_, all, keep, bind}
-use Rattle.covering.specs.Term.{Term, Atom, Question, terms, Sub, on-term, on-atom, on-question, comp, eqTerm, var}
-use Rattle.covering.specs.Term.{con, Below, isVar}
-use Rattle.covering.proofs.Lists.{all-same, map-same, map-append, map-none}
+use Rattle.covering.specs.Term.{Term, Question, terms, Sub, on-term, on-atom, on-question, comp, eqTerm, var}
+use Rattle.covering.specs.Term.{Below, isVar}
+use Rattle.covering.proofs.Lists.{all-same, map-same, map-append}
 use Rattle.covering.proofs.Tests.{same-bool, none≢some}
-use Rattle.covering.proofs.Terms.{eqTerm→eq, eq→eqTerm, on-term-var, on-term-comp, on-atom-fixed, on-atom-comp, terms-in}
+use Rattle.covering.proofs.Terms.{eqTerm→eq, eq→eqTerm, on-term-comp, on-atom-comp, terms-in}
 use Rattle.covering.proofs.Terms.{terms-out, terms-on}
 use Rattle.covering.specs.Rule.{Rule}
-use Rattle.unification.specs.Classes.{Pair, unify, Kernel, HoldsPairs}
-use Rattle.unification.specs.Choice.{Choice, number, choices, someSent, left, never, placePairs, toHead, pairing}
+use Rattle.unification.specs.Classes.{unify, Kernel, HoldsPairs}
+use Rattle.unification.specs.Choice.{Choice, number, choices, someSent, left, pairing}
 use Rattle.unification.specs.Step.{up, move, memTerm, isUnknown, guarded, safe, valid, rewriting, judge, step}
 use Rattle.unification.specs.Step.{label, listed}
 use Rattle.unification.proofs.Classes.{Least, unify-least, unify-sound, kernel-admissible}
 use Rattle.unification.proofs.Choices.{left-in}
 use Rattle.unification.proofs.Collected.{collect-same}
-use Rattle.unification.proofs.Moved.{moved-term, glue, glue-below, glue-rule, glue-moved}
+use Rattle.unification.proofs.Moved.{moved-term, glue-rule, glue-moved}
 use Rattle.unification.proofs.Pairs.{mem→memTerm, memTerm→mem}
 use Rattle.unification.proofs.Representatives.{judge-same}
 use Rattle.unification.proofs.Valid.{near-on}
-
--- pairs under a renaming
-abbrev both-on : Sub → Pair → Pair
-both-on ρ p = (on-term ρ (p .0), on-term ρ (p .1))
-
-never-on : (ρ : Sub) (p : Pair) → p ∈ never → both-on ρ p ∈ never
-never-on ρ p (List·Memᴰ·head e) = List·Memᴰ·head (ap (both-on ρ) e)
-
-zip-on : (ρ : Sub) (ts us : List Term) (p : Pair) → p ∈ placePairs ts us
-    → both-on ρ p ∈ placePairs (map (on-term ρ) ts) (map (on-term ρ) us)
-zip-on ρ [] [] p m = absurd (List·Memᴰ·not-nil m)
-zip-on ρ [] (u ∷ us) p m = never-on ρ p m
-zip-on ρ (t ∷ ts) [] p m = never-on ρ p m
-zip-on ρ (t ∷ ts) (u ∷ us) p (List·Memᴰ·head e) = List·Memᴰ·head (ap (both-on ρ) e)
-zip-on ρ (t ∷ ts) (u ∷ us) p (List·Memᴰ·tail m) = List·Memᴰ·tail (zip-on ρ ts us p m)
-
-head-on : (ρ : Sub) (H : Question) (d : ℕ) (a : Atom) (p : Pair) → p ∈ toHead H d a
-    → both-on ρ p ∈ toHead (on-question ρ H) d (on-atom ρ a)
-head-on ρ [] d a p m = never-on ρ p m
-head-on ρ (b ∷ H) zero a p (List·Memᴰ·head e) = List·Memᴰ·head (ap (both-on ρ) e)
-head-on ρ (b ∷ H) zero a p (List·Memᴰ·tail m) = List·Memᴰ·tail (zip-on ρ (a .args) (b .args) p m)
-head-on ρ (b ∷ H) (suc d) a p m = head-on ρ H d a p m
-
-pairing-on : (ρ : Sub) (ds : Choice) (Q H : Question) (p : Pair) → p ∈ pairing ds Q H
-    → both-on ρ p ∈ pairing ds (on-question ρ Q) (on-question ρ H)
-pairing-on ρ [] Q H p m = absurd (List·Memᴰ·not-nil m)
-pairing-on ρ (d ∷ ds) [] H p m = absurd (List·Memᴰ·not-nil m)
-pairing-on ρ (zero ∷ ds) (a ∷ Q) H p m = pairing-on ρ ds Q H p m
-pairing-on ρ (suc d ∷ ds) (a ∷ Q) H p m = go (List·Memᴰ·append-cases (toHead H d a) m) (λ k. pairing-on ρ ds Q H p k)
-  where
-    go : (p ∈ toHead H d a) ⊎ (p ∈ pairing ds Q H)
-        → (p ∈ pairing ds Q H → both-on ρ p ∈ pairing ds (on-question ρ Q) (on-question ρ H))
-        → both-on ρ p ∈ toHead (on-question ρ H) d (on-atom ρ a) ++ pairing ds (on-question ρ Q) (on-question ρ H)
-    go (inl k) below = Memᴰ·append-left (pairing ds (on-question ρ Q) (on-question ρ H)) (head-on ρ H d a p k)
-    go (inr k) below = Memᴰ·append-right (toHead (on-question ρ H) d (on-atom ρ a)) (below k)
-
-all-map : {A B : Type 0} (p : B → Bool) (f : A → B) (l : List A) → all p (map f l) ≡ all (λ x. p (f x)) l
-all-map p f [] = refl
-all-map p f (x ∷ xs) = ap (λ (b : Bool). p (f x) && b) (all-map p f xs)
-
--- the renaming that turns a rule moved by k into the rule moved by k′, and leaves question variables
-abbrev shift : ℕ → ℕ → Sub
-shift k k′ = glue k var (up k′)
-
-shift-var : (k k′ n : ℕ) → isVar (shift k k′ n) ≡ true
-shift-var k k′ n = go (ltb n k)
-  where
-    go : (b : Bool) → isVar (cond b (var n) (up k′ (n - k))) ≡ true
-    go true = refl
-    go false = refl
-
-shift-isVar : (k k′ : ℕ) (t : Term) → isVar (on-term (shift k k′) t) ≡ isVar t
-shift-isVar k k′ (var n) = shift-var k k′ n
-shift-isVar k k′ (con c) = refl
-
-shift-keeps : (k k′ : ℕ) (A : Question) → Below k A → (t : Term) → t ∈ terms A → on-term (shift k k′) t ≡ t
-shift-keeps k k′ A b t m = glue-below k var (up k′) A b t m ∙ on-term-var t
-
-shift-question : (k k′ : ℕ) (A : Question) → Below k A → on-question (shift k k′) A ≡ A
-shift-question k k′ A b =
-    map-none (on-atom (shift k k′)) A
-    (λ a m. on-atom-fixed (shift k k′) a (λ t n. shift-keeps k k′ A b t (terms-in A m n)))
+use Rattle.unification.proofs.Renamed.{both-on, pairing-on, all-map, shift}
+use Rattle.unification.proofs.Renamed.{shift-isVar, shift-keeps, shift-question}
 
 -- a choice's classes with the rule moved by k, and what those with k′ say of them
 abbrev solved : ℕ → Rule → Question → Choice → Option Sub

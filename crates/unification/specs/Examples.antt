@@ -1,12 +1,13 @@
--- The starred examples of 01 that are one-step rewritings, 4 to 9: a rule, a question, and the list of the
--- question's rewritings with their choices' numbers. Then some from the sources, and readings of ours. Relations are
--- numbered in order of appearance in an example, x, y, z are the rule's variables 0, 1, 2.
+-- 01's starred examples that are one-step rewritings, 4 to 9: a rule, a question, and the list of the question's
+-- rewritings with their choices' numbers; `exploration` takes them into the one list of all that are starred. Then
+-- some from the sources, and readings of ours. Relations are numbered in order of appearance in an example, x, y, z
+-- are the rule's variables 0, 1, 2.
 use mathlib.Core.List.{List, [], _∷_}
 use Prim.Native.Nat.{ℕ}
 use Rattle.covering.specs.Term.{Term, var, con, Atom, Question}
 use Rattle.covering.specs.Rule.{Rule}
 
-pub record Example : Type 0 where
+pub record StepExample : Type 0 where
   pub rule : Rule
   pub question : Question
   pub listing : List (ℕ × Question)
@@ -17,17 +18,17 @@ at1 p t = record { rel = p; args = t ∷ [] }
 abbrev pub at2 : ℕ → Term → Term → Atom
 at2 p t u = record { rel = p; args = t ∷ u ∷ [] }
 
-abbrev v0 : Term
+abbrev pub v0 : Term
 v0 = var 0
 
-abbrev v1 : Term
+abbrev pub v1 : Term
 v1 = var 1
 
-abbrev v2 : Term
+abbrev pub v2 : Term
 v2 = var 2
 
 -- "person(x) to parent(x,y); question parent(v0,c0): no valid choice."
-abbrev pub example4 : Example
+abbrev pub example4 : StepExample
 example4 =
     record {
       rule = record { body = at1 0 v0 ∷ []; head = at2 1 v0 v1 ∷ [] };
@@ -36,7 +37,7 @@ example4 =
     }
 
 -- "The same rule; question parent(v0,v1) dentist(v1): none."
-abbrev pub example5 : Example
+abbrev pub example5 : StepExample
 example5 =
     record {
       rule = record { body = at1 0 v0 ∷ []; head = at2 1 v0 v1 ∷ [] };
@@ -45,7 +46,7 @@ example5 =
     }
 
 -- "b(x) to r(x,y) r(y,z) r(z,x); question r(v0,v1) r(v1,v0): none."
-abbrev pub example6 : Example
+abbrev pub example6 : StepExample
 example6 =
     record {
       rule = record { body = at1 0 v0 ∷ []; head = at2 1 v0 v1 ∷ at2 1 v1 v2 ∷ at2 1 v2 v0 ∷ [] };
@@ -55,7 +56,7 @@ example6 =
 
 -- "b(x) to r(x,y) r(y,x); question r(v0,v1) r(v1,v2) r(v2,v0): three choices, each r(v0,v0) b(v0)."
 -- They are 0 1 2, 1 2 0 and 2 0 1 in base 3.
-abbrev pub example7 : Example
+abbrev pub example7 : StepExample
 example7 =
     let X = at2 1 v0 v0 ∷ at1 0 v0 ∷ [] in
     record {
@@ -66,7 +67,7 @@ example7 =
 
 -- "twin(x,y) to m(z,x) m(z,y); question m(v0,v1) m(v0,v2): four choices, each twin(v0,v1)."
 -- They are 1 1, 1 2, 2 1 and 2 2 in base 3.
-abbrev pub example8 : Example
+abbrev pub example8 : StepExample
 example8 =
     let X = at2 0 v0 v1 ∷ [] in
     record {
@@ -77,7 +78,7 @@ example8 =
 
 -- "s(x) to p(x,x); question p(v0,v1) p(v1,v0): members are the question and s(v0)." One piece at a time would give
 -- "the step p(v0,v0) s(v0)" alone.
-abbrev pub example9 : Example
+abbrev pub example9 : StepExample
 example9 =
     let X = at2 1 v0 v0 ∷ at1 0 v0 ∷ [] in
     record {
@@ -86,9 +87,8 @@ example9 =
       listing = (1, X) ∷ (2, X) ∷ (3, at1 0 v0 ∷ []) ∷ [];
     }
 
--- "The starred examples are one list with a single theorem."
-unfoldable pub examples : List Example
-examples = example4 ∷ example5 ∷ example6 ∷ example7 ∷ example8 ∷ example9 ∷ []
+unfoldable pub starred : List StepExample
+starred = example4 ∷ example5 ∷ example6 ∷ example7 ∷ example8 ∷ example9 ∷ []
 
 abbrev v3 : Term
 v3 = var 3
@@ -97,7 +97,7 @@ abbrev v4 : Term
 v4 = var 4
 
 -- document 000, Example 1: "The corresponding rewriting of Q is q(x) ∧ r(x, x)."
-abbrev pub source1 : Example
+abbrev pub source1 : StepExample
 source1 =
     record {
       rule = record { body = at1 0 v0 ∷ []; head = at2 1 v0 v1 ∷ [] };
@@ -107,7 +107,7 @@ source1 =
 
 -- document 000, Example 3: "two single-piece unifiers of Q with R", and "a query equivalent to r(x, x), p1(x),
 -- p2(x), b(x), which could be generated from Q with a two-piece unifier". Two equal atoms r(x, x) are one.
-abbrev pub source3 : Example
+abbrev pub source3 : StepExample
 source3 =
     record {
       rule = record { body = at1 0 v0 ∷ []; head = at2 1 v0 v1 ∷ [] };
@@ -122,7 +122,7 @@ source3 =
 
 -- document 002: "twin(w,t) ∧ Female(w) ∧ Male(t)" and "twin(w,y) ∧ Female(w) ∧ Male(w)"; and the two with twins
 -- turned
-abbrev pub source-twins : Example
+abbrev pub source-twins : StepExample
 source-twins =
     record {
       rule = record { body = at2 0 v0 v1 ∷ []; head = at2 1 v2 v0 ∷ at2 1 v2 v1 ∷ [] };
@@ -136,7 +136,7 @@ source-twins =
     }
 
 -- "second existential variable": b(x) to r(y,z); question r(v0,v0)
-abbrev pub two-unknowns : Example
+abbrev pub two-unknowns : StepExample
 two-unknowns =
     record {
       rule = record { body = at1 0 v0 ∷ []; head = at2 1 v1 v2 ∷ [] };
@@ -145,7 +145,7 @@ two-unknowns =
     }
 
 -- equal head atoms are separate digits: b(x) to p(x) p(x); question p(v0)
-abbrev pub equal-heads : Example
+abbrev pub equal-heads : StepExample
 equal-heads =
     record {
       rule = record { body = at1 0 v0 ∷ []; head = at1 1 v0 ∷ at1 1 v0 ∷ [] };
@@ -153,5 +153,5 @@ equal-heads =
       listing = (1, at1 0 v0 ∷ []) ∷ (2, at1 0 v0 ∷ []) ∷ [];
     }
 
-unfoldable pub more-examples : List Example
-more-examples = source1 ∷ source3 ∷ source-twins ∷ two-unknowns ∷ equal-heads ∷ []
+unfoldable pub from-sources : List StepExample
+from-sources = source1 ∷ source3 ∷ source-twins ∷ two-unknowns ∷ equal-heads ∷ []

@@ -29,7 +29,8 @@ use Rattle.lister.specs.Asking.{ruleOf, foundOf}
 use Rattle.unify.proofs.TableBytes.{joined-yes, joined-no}
 use Rattle.lister.proofs.Prefixes.{digits-none, digits-miss, prefix-digits, whole-sent, whole-unsent}
 use Rattle.lister.proofs.RewritingBytes.{first-fits, first-atom-in}
-use Rattle.lister.proofs.Asked.{found-first, missed-none, left-room, left-put, nth-sound, joined-fit}
+use Rattle.lister.proofs.Asked.{found-first, missed-none, nth-sound, joined-fit}
+use Rattle.lister.proofs.LeftAtoms.{left-room, left-put}
 use Rattle.lister.proofs.Asked.{child-number, child-left, child-sent, heads-are, skipped, left-at, clash-at}
 use Rattle.lister.proofs.Asked.{sent-at, nth-fits, child-small}
 use Rattle.forming.proofs.put_atom.Reads as put-atom-reads

@@ -7,7 +7,8 @@ use mathlib.Core.Path.{_≡_, ap, _∙_}
 use Rattle.covering.specs.Form.{form}
 use Rattle.covering.specs.Record.{desk}
 use Rattle.covering.specs.Buffer.{heldIn}
-use Rattle.lister.proofs.RewritingBytes.{filling-none, left-filling, whole-sound, whole-question, upper-fits}
+use Rattle.lister.proofs.RewritingBytes.{filling-none, left-filling, whole-sound, whole-question}
+use Rattle.lister.proofs.Halves.{upper-fits}
 use Rattle.lister.proofs.writing.rewriting.Statement.{statement}
 use Rattle.lister.proofs.writing.rewriting.Tie as tie
 

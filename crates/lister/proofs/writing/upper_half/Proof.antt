@@ -3,7 +3,7 @@
 use borrow.Author.Needs.{needs}
 use native.Mathlib.Omega.{arith}
 use Prim.Native.Nat.{_-_, _≤_}
-use Rattle.lister.proofs.RewritingBytes.{Half, half-none, half-more, half-all}
+use Rattle.lister.proofs.Halves.{Half, half-none, half-more, half-all}
 use Rattle.lister.proofs.writing.upper_half.Statement.{statement}
 use Rattle.lister.proofs.writing.upper_half.Tie as tie
 
