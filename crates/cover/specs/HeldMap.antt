@@ -1,5 +1,5 @@
 -- How the code holds a map of variables: a byte for each, 255 where the variable goes nowhere yet. The contracts of
--- the search's own functions are placedMap with it; the desk's do not need it.
+-- the search's own functions are said with it; the desk's do not need it.
 use mathlib.Core.Bool.{cond}
 use mathlib.Core.List.{List}
 use mathlib.Core.Option.{Option, none, some}

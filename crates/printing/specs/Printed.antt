@@ -19,7 +19,7 @@ ascii (c then s) = code c ∷ ascii s
 abbrev pub figure : ℕ → ℕ
 figure n = 48 + n
 
--- the decimal figures of a number, with no zero in front; the first argument bounds how many there are
+-- the decimal digits of a number, with no zero in front; the first argument bounds how many there are
 unfoldable pub figures : ℕ → ℕ → List ℕ
 figures zero n = figure n ∷ []
 figures (suc most) n = let more = figures most (n / 10) ++ figure (n % 10) ∷ [] in cond (ltb n 10) (figure n ∷ []) more

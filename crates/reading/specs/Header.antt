@@ -39,7 +39,7 @@ rulesAt B = word B 12
 abbrev pub questionAt : List ℕ → ℕ
 questionAt B = word B 14
 
--- "then the totalWord length."
+-- "then the total length."
 abbrev pub totalWord : List ℕ → ℕ
 totalWord B = word B 16
 

@@ -30,7 +30,8 @@ NoLater r m q = (r .number < m) ⊎ ((r .number ≡ m) × (r .place ≤ q))
 -- "The smallest applicable number .. wins, and within it the earliest place."
 pub data IsVerdict (B : List ℕ) (r : Refusal) : Type 0 where
   sound : r ≡ accepted → ((n p : ℕ) → ApplicableToBook B n p → ⊥) → IsVerdict B r
-  refused : ApplicableToBook B (r .number) (r .place) → ((m q : ℕ) → ApplicableToBook B m q → NoLater r m q) → IsVerdict B r
+  refused : ApplicableToBook B (r .number) (r .place) → ((m q : ℕ) → ApplicableToBook B m q → NoLater r m q)
+      → IsVerdict B r
 
 -- the place i, where the test is not passed
 abbrev pub unless : Bool → ℕ → Option ℕ

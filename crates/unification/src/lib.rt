@@ -1,1 +1,2 @@
-// The definitions of one-step rewritings and their laws: specs/ and proofs/. The code is in `unify`.
+// The definitions of one-step rewritings and their laws: specs/ and proofs/. The code is in `unify` and
+// `lister`.

@@ -1,5 +1,4 @@
--- How the code holds rules, classes and an answer. The contracts of the lister's own functions are joinedTable with it; that
--- of `next` needs only `foundOf` and `ruleIn`.
+-- How the code holds rules and classes. The contracts of this crate's functions, and of the lister, are said with it.
 use mathlib.Core.Bool.{cond}
 use mathlib.Core.List.{List, map}
 use mathlib.Core.Option.{Option, none, some}

@@ -1,4 +1,4 @@
--- `explore::admitting::admit` meets its contract: at each return, what became of the rewriting.
+-- `admit::admitting::admit` meets its contract: at each return, what became of the rewriting.
 use borrow.Author.Needs.{needs}
 use native.Mathlib.Omega.{arith}
 use mathlib.Core.Path.{_≡_}

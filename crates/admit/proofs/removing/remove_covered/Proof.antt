@@ -1,4 +1,4 @@
--- `explore::removing::remove_covered` meets its contract: first the explored members, then the others.
+-- `admit::removing::remove_covered` meets its contract: first the explored members, then the others.
 use borrow.Author.Needs.{needs}
 use native.Mathlib.Omega.{arith}
 use Rattle.admit.proofs.Array.{parts-stand, others-stand, removed-working, removed-state, removed-few}

@@ -1,4 +1,4 @@
--- `explore::working::append` meets its contract. The loop's invariant: the record's bytes passed are copied to len.
+-- `admit::working::append` meets its contract. The loop's invariant: the record's bytes passed are copied to len.
 -- The measure is the number of bytes left.
 use borrow.Author.Needs.{needs}
 use native.Mathlib.Omega.{arith}

@@ -1,4 +1,4 @@
--- `explore::working::move_down` meets its contract. The loop's invariant: so many of the bytes are moved down; each is
+-- `admit::working::move_down` meets its contract. The loop's invariant: so many of the bytes are moved down; each is
 -- read before it is written over, since it stands no lower than where it goes. The measure is the number of bytes left.
 use borrow.Author.Needs.{needs}
 use native.Mathlib.Omega.{arith}

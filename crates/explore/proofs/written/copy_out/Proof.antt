@@ -1,4 +1,4 @@
--- `explore::working::copy_out` meets its contract. The loop's invariant: the bytes passed are copied to the front of
+-- `explore::written::copy_out` meets its contract. The loop's invariant: the bytes passed are copied to the front of
 -- the output. The measure is the number of bytes left.
 use borrow.Author.Needs.{needs}
 use native.Mathlib.Omega.{arith}

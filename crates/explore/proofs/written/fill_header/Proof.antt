@@ -1,4 +1,4 @@
--- `explore::working::fill_header` meets its contract: four words put one after the other at the front.
+-- `explore::written::fill_header` meets its contract: four words put one after the other at the front.
 use borrow.Author.Needs.{needs}
 use Rattle.explore.proofs.Pasting.{header-put}
 use Rattle.explore.proofs.written.fill_header.Statement.{statement}

@@ -1,4 +1,4 @@
--- `explore::working::put_word` meets its contract: both parts of a number below 65,536 are bytes.
+-- `explore::written::put_word` meets its contract: both parts of a number below 65,536 are bytes.
 use borrow.Author.Needs.{needs}
 use native.Mathlib.Omega.{arith}
 use lib.ListN.{length-set}

@@ -1,4 +1,4 @@
--- `cover::formed::atom_on` meets its contract. The loop's invariant: the bytes passed are those of the atom on the
+-- `forming::formed::atom_on` meets its contract. The loop's invariant: the bytes passed are those of the atom on the
 -- table. The measure is the number of bytes left.
 use borrow.Author.Needs.{needs}
 use native.Mathlib.Omega.{arith}

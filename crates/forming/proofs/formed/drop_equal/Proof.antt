@@ -1,4 +1,4 @@
--- `cover::formed::drop_equal` meets its contract. The loop's invariant: dropping equal atoms is adding those from
+-- `forming::formed::drop_equal` meets its contract. The loop's invariant: dropping equal atoms is adding those from
 -- here on to those kept, each unless it is there. The measure is their number, and there is room for them.
 use borrow.Author.Needs.{needs}
 use native.Mathlib.Omega.{arith}

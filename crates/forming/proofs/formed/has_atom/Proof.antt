@@ -1,4 +1,4 @@
--- `cover::formed::has_atom` meets its contract. The loop's invariant: the atom is among those kept exactly where it
+-- `forming::formed::has_atom` meets its contract. The loop's invariant: the atom is among those kept exactly where it
 -- is among those from here on, and these are sound. The measure is their number.
 use native.Mathlib.Omega.{arith}
 use mathlib.Core.Path.{_≡_, refl, sym, _∙_}

@@ -1,4 +1,4 @@
--- `cover::formed::in_form` meets its contract: with equal atoms dropped the record is sound and holds just the
+-- `forming::formed::in_form` meets its contract: with equal atoms dropped the record is sound and holds just the
 -- others, and these renumbered are the form.
 use borrow.Author.Needs.{needs}
 use native.Mathlib.Omega.{arith}

@@ -1,4 +1,4 @@
--- `cover::formed::no_atoms` meets its contract: a count of 0 and then 255 alone is a record of no atoms.
+-- `forming::formed::no_atoms` meets its contract: a count of 0 and then 255 alone is a record of no atoms.
 use borrow.Author.Needs.{needs}
 use mathlib.Core.Path.{refl}
 use Rattle.covering.specs.Record.{recordBytes}

@@ -1,4 +1,4 @@
--- `cover::formed::number_atom` meets its contract. The loop's invariant: to see all places is to see those from the
+-- `forming::formed::number_atom` meets its contract. The loop's invariant: to see all places is to see those from the
 -- j-th on, after the variables that the table has now. The measure is the number of places left.
 use native.Mathlib.Omega.{arith}
 use native.Mathlib.Nat.{add-zero}

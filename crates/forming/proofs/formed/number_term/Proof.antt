@@ -1,4 +1,4 @@
--- `cover::formed::number_term` meets its contract: a constant changes nothing, nor does a variable that has a
+-- `forming::formed::number_term` meets its contract: a constant changes nothing, nor does a variable that has a
 -- number; any other gets the next one.
 use borrow.Author.Needs.{needs}
 use native.Mathlib.Omega.{arith}

@@ -1,4 +1,4 @@
--- `cover::formed::numbers_of` meets its contract. The loop's invariant: the record's variables in order of first
+-- `forming::formed::numbers_of` meets its contract. The loop's invariant: the record's variables in order of first
 -- appearance are those that the table has now and then those of the atoms from here on. The measure is the number of
 -- these.
 use native.Mathlib.Omega.{arith}

@@ -1,4 +1,4 @@
--- `cover::formed::put_atom` meets its contract. The loop's invariant: the bytes passed are copied to the place after
+-- `forming::formed::put_atom` meets its contract. The loop's invariant: the bytes passed are copied to the place after
 -- the record's own atoms, whose count is one more already. The measure is the number of bytes left.
 use borrow.Author.Needs.{needs}
 use native.Mathlib.Omega.{arith}

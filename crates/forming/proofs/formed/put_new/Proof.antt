@@ -1,4 +1,4 @@
--- `cover::formed::put_new` meets its contract: an atom that is there leaves the record as it is, any other is put.
+-- `forming::formed::put_new` meets its contract: an atom that is there leaves the record as it is, any other is put.
 use borrow.Author.Needs.{needs}
 use mathlib.Core.Path.{sym, ap, _∙_}
 use Rattle.covering.specs.Term.{eqAtom}

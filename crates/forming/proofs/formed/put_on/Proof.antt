@@ -1,4 +1,4 @@
--- `cover::formed::put_on` meets its contract: the atom's bytes on the table are put after the record's own.
+-- `forming::formed::put_on` meets its contract: the atom's bytes on the table are put after the record's own.
 use borrow.Author.Needs.{needs}
 use mathlib.Core.Path.{ap, _∙_}
 use mathlib.Core.List.{[], _∷_, _++_}

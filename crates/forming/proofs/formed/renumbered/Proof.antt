@@ -1,4 +1,4 @@
--- `cover::formed::renumbered` meets its contract. The loop's invariant: the atoms passed are written renumbered, and
+-- `forming::formed::renumbered` meets its contract. The loop's invariant: the atoms passed are written renumbered, and
 -- there is room for those from here on. The measure is the number of these.
 use borrow.Author.Needs.{needs}
 use native.Mathlib.Omega.{arith}

@@ -1,4 +1,4 @@
--- `cover::formed::replaced` meets its contract: a variable's byte is the table's, any other stays.
+-- `forming::formed::replaced` meets its contract: a variable's byte is the table's, any other stays.
 use borrow.Author.Needs.{needs}
 use native.Mathlib.Omega.{arith}
 use mathlib.Core.Path.{sym}

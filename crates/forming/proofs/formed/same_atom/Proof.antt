@@ -1,4 +1,4 @@
--- `cover::formed::same_atom` meets its contract. The loop's invariant: the bytes passed are the same. The measure is
+-- `forming::formed::same_atom` meets its contract. The loop's invariant: the bytes passed are the same. The measure is
 -- the number of bytes left.
 use native.Mathlib.Omega.{arith}
 use mathlib.Core.Path.{_≡_, sym}

@@ -1,4 +1,4 @@
--- `unify::builder::next` meets its contract: the builder starts with no atom left, none sent and each variable in a
+-- `lister::builder::next` meets its contract: the builder starts with no atom left, none sent and each variable in a
 -- class of its own.
 use borrow.Author.Needs.{needs}
 use native.Mathlib.Omega.{arith}

@@ -1,4 +1,4 @@
--- `unify::powers::choice_count` meets its contract: the rule of the table is one test that is computed at every
+-- `lister::powers::choice_count` meets its contract: the rule of the table is one test that is computed at every
 -- entry.
 use borrow.Author.Needs.{needs}
 use native.Mathlib.Omega.{arith}

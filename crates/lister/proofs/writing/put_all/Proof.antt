@@ -1,4 +1,4 @@
--- `unify::writing::put_all` meets its contract. The loop's invariant: what is to be held is what is held already with
+-- `lister::writing::put_all` meets its contract. The loop's invariant: what is to be held is what is held already with
 -- the atoms from here on, and there is room for them. The measure is their number.
 use native.Mathlib.Omega.{arith}
 use mathlib.Core.Path.{_≡_, refl, sym, ap, _∙_}

@@ -1,4 +1,4 @@
--- `unify::writing::rewriting` meets its contract: the left atoms by the classes, then the body by their upper half,
+-- `lister::writing::rewriting` meets its contract: the left atoms by the classes, then the body by their upper half,
 -- then the form of the whole.
 use borrow.Author.Needs.{needs}
 use native.Mathlib.Omega.{arith}

@@ -1,4 +1,4 @@
--- `unify::writing::upper_half` meets its contract. The loop's invariant: the entries before i are moved down. The
+-- `lister::writing::upper_half` meets its contract. The loop's invariant: the entries before i are moved down. The
 -- measure is the number of entries left.
 use borrow.Author.Needs.{needs}
 use native.Mathlib.Omega.{arith}
