@@ -25,7 +25,7 @@ use Rattle.exploration.proofs.Refused.{refuses-exactly}
 use Rattle.exploration.proofs.Given.{Whole, kind, members-are, explored-is, the-bytes, same-length, refused-exactly}
 use Rattle.exploration.proofs.Given.{whole-given}
 use Rattle.printing.specs.Printed.{printed}
-use Rattle.printing.specs.Put.{Pastes}
+use Rattle.printing.specs.Put.{Puts}
 use Rattle.printing.specs.Answer.{resultIn, Stands, Printable, textSize, linesOf}
 use Rattle.printing.proofs.Putting.{put-none, put-as}
 use Rattle.printing.proofs.Longest.{union-most, refusal-most}
@@ -136,10 +136,10 @@ module _ {book out : List ℕ} {number place : ℕ} {after : List ℕ} (given : 
 
   -- what `print` prints is what is printed for the book
   pub answered : {text after-text : List ℕ} {end : ℕ} → textSize ≤ length text
-      → Pastes (printed (resultIn number place after)) text 0 end after-text
-      → Pastes (linesOf book (length text)) text 0 end after-text
+      → Puts (printed (resultIn number place after)) text 0 end after-text
+      → Puts (linesOf book (length text)) text 0 end after-text
   answered {text} roomy p = put-as (lines-long book (length text) roomy ∙ ap printed (sym result-told)) p
 
 -- into a text that is too short nothing is printed
-pub unanswered : (book text : List ℕ) → length text < textSize → Pastes (linesOf book (length text)) text 0 0 text
+pub unanswered : (book text : List ℕ) → length text < textSize → Puts (linesOf book (length text)) text 0 0 text
 unanswered book text short = put-as (lines-short book (length text) short) (put-none (omega arith))

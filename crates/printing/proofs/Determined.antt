@@ -4,12 +4,12 @@ use mathlib.Core.List.{List, _++_}
 use Prim.Native.Nat.{ℕ}
 use lib.ListN.{take, drop}
 use denote.Ref.{now}
-use Rattle.printing.specs.Put.{Pastes}
+use Rattle.printing.specs.Put.{Puts}
 use Rattle.printing.proofs.answer.Reads as answer-reads
 
 -- where the bytes end, and every byte of the text
-pub put-determined : {bytes before after other : List ℕ} {at end stop : ℕ} → Pastes bytes before at end after
-    → Pastes bytes before at stop other → (end ≡ stop) × (after ≡ other)
+pub put-determined : {bytes before after other : List ℕ} {at end stop : ℕ} → Puts bytes before at end after
+    → Puts bytes before at stop other → (end ≡ stop) × (after ≡ other)
 put-determined {bytes} {before} {after} {other} {at} {end} {stop} p q = (
   same,
   p .puts ∙ ap (λ (n : ℕ). take at before ++ (bytes ++ drop n before)) same ∙ sym (q .puts),

@@ -6,17 +6,17 @@ use native.Mathlib.Numerals.{add-one}
 use native.Mathlib.Omega.{arith}
 use lib.ListN.{length, set, take, drop, length-append, length-drop, take-append-drop}
 use lib.Seq.{drop-drop, take-at, drop-at, length-take-le, set-split}
-use Rattle.printing.specs.Put.{Pastes}
+use Rattle.printing.specs.Put.{Puts}
 
-pub put-none : {t : List ℕ} {at : ℕ} → at ≤ length t → Pastes [] t at at t
+pub put-none : {t : List ℕ} {at : ℕ} → at ≤ length t → Puts [] t at at t
 put-none {t} {at} h = record { ends = omega arith; within = h; puts = sym (take-append-drop at t) }
 
 -- the same bytes
-pub put-as : {a b t u : List ℕ} {at m : ℕ} → b ≡ a → Pastes a t at m u → Pastes b t at m u
-put-as {a} {b} {t} {u} {at} {m} e p = subst (λ (l : List ℕ). Pastes l t at m u) (sym e) p
+pub put-as : {a b t u : List ℕ} {at m : ℕ} → b ≡ a → Puts a t at m u → Puts b t at m u
+put-as {a} {b} {t} {u} {at} {m} e p = subst (λ (l : List ℕ). Puts l t at m u) (sym e) p
 
 -- one byte is stored
-pub put-one : (t : List ℕ) (at b : ℕ) → at + 1 ≤ length t → Pastes (b ∷ []) t at (at + 1) (set t at b)
+pub put-one : (t : List ℕ) (at b : ℕ) → at + 1 ≤ length t → Puts (b ∷ []) t at (at + 1) (set t at b)
 put-one t at b h =
     record {
       ends = refl;
@@ -26,7 +26,7 @@ put-one t at b h =
           ∙ ap (λ (n : ℕ). take at t ++ b ∷ drop n t) (sym (add-one at));
     }
 
-module _ {a t u : List ℕ} {at m : ℕ} (p : Pastes a t at m u) where
+module _ {a t u : List ℕ} {at m : ℕ} (p : Puts a t at m u) where
   low : length (take at t) ≡ at
   low = length-take-le at t (omega (arith, p .ends, p .within))
 
@@ -44,7 +44,7 @@ module _ {a t u : List ℕ} {at m : ℕ} (p : Pastes a t at m u) where
       ∙ omega (arith, front, length-drop m t, p .within)
 
   -- one put after the other: both are put
-  pub then : {b v : List ℕ} {e : ℕ} → Pastes b u m e v → Pastes (a ++ b) t at e v
+  pub then : {b v : List ℕ} {e : ℕ} → Puts b u m e v → Puts (a ++ b) t at e v
   then {b} {v} {e} q =
       record {
         ends = omega (arith, p .ends, q .ends, length-append a b);

@@ -5,7 +5,7 @@ use Prim.Native.Nat.{ℕ, _+_, _≤_}
 use lib.ListN.{length, take, drop}
 
 -- The bytes stand in the text from `at` on and end at `end`; every other byte is as it was.
-pub record Pastes (bytes before : List ℕ) (at end : ℕ) (after : List ℕ) : Type 0 where
+pub record Puts (bytes before : List ℕ) (at end : ℕ) (after : List ℕ) : Type 0 where
   pub ends : end ≡ at + length bytes
   pub within : end ≤ length before
   pub puts : after ≡ take at before ++ (bytes ++ drop end before)

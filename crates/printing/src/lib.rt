@@ -8,7 +8,7 @@ ghost use lib.ListN.{length};
 ghost use Rattle.reading.specs.Word.{word as wordAt};
 ghost use Rattle.printing.specs.Printed.{printed};
 ghost use Rattle.printing.specs.Answer.{resultIn, Printable, linesOf};
-ghost use Rattle.printing.specs.Put.{Pastes};
+ghost use Rattle.printing.specs.Put.{Puts};
 use lines::put_line;
 use lines::put_members;
 
@@ -23,7 +23,7 @@ fn word(s: &[u8], i: usize) -> usize
 // Prints what a number, a place and an output say to the front of the text, and answers where it ends.
 fn print(number: u8, place: usize, output: &[u8], text: &mut [u8]) -> usize
     requires { ⌜ Printable number place (now output) (length (now text)) ⌝ }
-    ensures { λ r. ⌜ Pastes
+    ensures { λ r. ⌜ Puts
         (printed (resultIn number place (now (output .entry))))
         (now (text .entry))
         0
@@ -46,7 +46,7 @@ pub const TEXT: usize = 16384;
 // Prints the answer to a book to the front of the text, and answers where it ends. A text that might be too short is
 // left as it is.
 pub fn answer(book: &[u8], text: &mut [u8]) -> usize
-    ensures { λ r. ⌜ Pastes
+    ensures { λ r. ⌜ Puts
         (linesOf (now (book .entry)) (length (now (text .entry))))
         (now (text .entry))
         0

@@ -7,7 +7,7 @@ ghost use Rattle.covering.specs.Record.{desk, argsAt, atomAt, atomsAt, question
 ghost use Rattle.exploration.specs.Union.{membersFrom};
 ghost use Rattle.exploration.specs.Standing.{Standing};
 ghost use Rattle.printing.specs.Printed.{ascii, marked, termText, atomText, memberLine, line};
-ghost use Rattle.printing.specs.Put.{Pastes};
+ghost use Rattle.printing.specs.Put.{Puts};
 use super::put::put;
 use super::put::put_decimal;
 use super::put::put_term;
@@ -22,7 +22,7 @@ pub fn put_line(
     n: usize,
 ) -> usize
     requires { ⌜ at + length (line (now first) m (now second) n) ≤ length (now text) ⌝ }
-    ensures { λ r. ⌜ Pastes
+    ensures { λ r. ⌜ Puts
         (line (now (first .entry)) m (now (second .entry)) n)
         (now (text .entry))
         at
@@ -40,7 +40,7 @@ pub fn put_line(
 fn put_terms(text: &mut [u8], at: usize, member: &[u8], i: usize, w: usize) -> usize
     requires { ⌜ (i + w ≤ length (now member))
         × (at + length (marked (ascii ",") termText (argsAt (now member) i w)) ≤ length (now text)) ⌝ }
-    ensures { λ r. ⌜ Pastes
+    ensures { λ r. ⌜ Puts
         (marked (ascii ",") termText (argsAt (now (member .entry)) i w))
         (now (text .entry))
         at
@@ -64,7 +64,7 @@ fn put_atom(text: &mut [u8], at: usize, member: &[u8], i: usize) -> usize
     requires { ⌜ (i + 5 ≤ length (now member))
         × T (isAtom desk (now member) i)
         × (at + length (atomText (atomAt desk (now member) i)) ≤ length (now text)) ⌝ }
-    ensures { λ r. ⌜ Pastes
+    ensures { λ r. ⌜ Puts
         (atomText (atomAt desk (now (member .entry)) i))
         (now (text .entry))
         at
@@ -84,7 +84,7 @@ fn put_atoms(text: &mut [u8], at: usize, member: &[u8], i: usize, n: usize) -> u
     requires { ⌜ (i + n * 5 ≤ length (now member))
         × T (areAtoms desk (now member) i n)
         × (at + length (marked (ascii " ") atomText (atomsAt desk (now member) i n)) ≤ length (now text)) ⌝ }
-    ensures { λ r. ⌜ Pastes
+    ensures { λ r. ⌜ Puts
         (marked (ascii " ") atomText (atomsAt desk (now (member .entry)) i n))
         (now (text .entry))
         at
@@ -103,7 +103,7 @@ fn put_atoms(text: &mut [u8], at: usize, member: &[u8], i: usize, n: usize) -> u
 fn put_member(text: &mut [u8], at: usize, member: &[u8]) -> usize
     requires { ⌜ SoundRecord desk (now member)
         × (at + length (memberLine (questionOf desk (now member))) ≤ length (now text)) ⌝ }
-    ensures { λ r. ⌜ Pastes
+    ensures { λ r. ⌜ Puts
         (memberLine (questionOf desk (now (member .entry))))
         (now (text .entry))
         at
@@ -120,7 +120,7 @@ fn put_member(text: &mut [u8], at: usize, member: &[u8]) -> usize
 pub fn put_members(text: &mut [u8], at: usize, output: &[u8], i: usize, n: usize) -> usize
     requires { ⌜ Standing (now output) i n
         × (at + length (gather memberLine (membersFrom (now output) i n)) ≤ length (now text)) ⌝ }
-    ensures { λ r. ⌜ Pastes
+    ensures { λ r. ⌜ Puts
         (gather memberLine (membersFrom (now (output .entry)) i n))
         (now (text .entry))
         at

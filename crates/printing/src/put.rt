@@ -4,12 +4,12 @@ ghost use mathlib.Core.List.{[], _∷_};
 ghost use lib.ListN.{length};
 ghost use Rattle.covering.specs.Record.{termOf};
 ghost use Rattle.printing.specs.Printed.{decimal, termText, figure};
-ghost use Rattle.printing.specs.Put.{Pastes};
+ghost use Rattle.printing.specs.Put.{Puts};
 
 // Puts the bytes.
 pub fn put(text: &mut [u8], at: usize, bytes: &[u8]) -> usize
     requires { ⌜ at + length (now bytes) ≤ length (now text) ⌝ }
-    ensures { λ r. ⌜ Pastes (now (bytes .entry)) (now (text .entry)) at r (now (text .exit)) ⌝ }
+    ensures { λ r. ⌜ Puts (now (bytes .entry)) (now (text .entry)) at r (now (text .exit)) ⌝ }
 {
     let n = bytes.len();
     let mut i = 0;
@@ -23,7 +23,7 @@ pub fn put(text: &mut [u8], at: usize, bytes: &[u8]) -> usize
 // Puts the digit n.
 fn put_digit(text: &mut [u8], at: usize, n: usize) -> usize
     requires { ⌜ (n < 10) × (at + 1 ≤ length (now text)) ⌝ }
-    ensures { λ r. ⌜ Pastes (figure n ∷ []) (now (text .entry)) at r (now (text .exit)) ⌝ }
+    ensures { λ r. ⌜ Puts (figure n ∷ []) (now (text .entry)) at r (now (text .exit)) ⌝ }
 {
     text[at] = (48 + n) as u8;
     at + 1
@@ -32,7 +32,7 @@ fn put_digit(text: &mut [u8], at: usize, n: usize) -> usize
 // Puts the number n in decimal: its tenth first, then its last digit.
 pub fn put_decimal(text: &mut [u8], at: usize, n: usize) -> usize
     requires { ⌜ at + length (decimal n) ≤ length (now text) ⌝ }
-    ensures { λ r. ⌜ Pastes (decimal n) (now (text .entry)) at r (now (text .exit)) ⌝ }
+    ensures { λ r. ⌜ Puts (decimal n) (now (text .entry)) at r (now (text .exit)) ⌝ }
 {
     if n < 10 {
         return put_digit(text, at, n);
@@ -44,7 +44,7 @@ pub fn put_decimal(text: &mut [u8], at: usize, n: usize) -> usize
 // Puts the term that a place holds.
 pub fn put_term(text: &mut [u8], at: usize, b: u8) -> usize
     requires { ⌜ at + length (termText (termOf b)) ≤ length (now text) ⌝ }
-    ensures { λ r. ⌜ Pastes (termText (termOf b)) (now (text .entry)) at r (now (text .exit)) ⌝ }
+    ensures { λ r. ⌜ Puts (termText (termOf b)) (now (text .entry)) at r (now (text .exit)) ⌝ }
 {
     if b < 128 {
         let variable = put(text, at, b"v");

@@ -22,7 +22,8 @@ use Rattle.covering.specs.Rule.{Rule}
 use Rattle.unification.specs.Classes.{unify, Kernel, HoldsPairs}
 use Rattle.unification.specs.Choice.{Choice, number, choices, Ascending, left, sent, toHead, pairing}
 use Rattle.unification.specs.Step.{up, move, memTerm, listed}
-use Rattle.unification.specs.Published.{without, scope, PieceUnifier, Puts, digits, Publishes}
+use Rattle.unification.specs.Published.{without, scope, PieceUnifier, digits, Publishes}
+use Rattle.unification.specs.Published.{PutsOn}
 use Rattle.unification.proofs.Classes.{Least, unify-least, unify-sound, kernel-admissible}
 use Rattle.unification.proofs.Digits.{some-sent, digits-leave, digits-send, digits-among, digits-hold, digits-held}
 use Rattle.unification.proofs.Hits.{placeOf, digits-back}
@@ -108,7 +109,7 @@ module _ {k : ℕ} {r : Rule} {Q : Question} {n : ℕ} {X : Question} (below : B
   P-in-classes : (t v : Term) → μ .P t v → Kernel σ t v
   P-in-classes = p .no-more .least (Kernel σ) (kernel-admissible σ .eq) each
     where
-      each : (a b : Atom) → a ∈ μ .unified → getElem? H (p .to a) ≡ some b → Puts (Kernel σ) a b
+      each : (a b : Atom) → a ∈ μ .unified → getElem? H (p .to a) ≡ some b → PutsOn (Kernel σ) a b
       each a b m e =
           hold-puts σ a b
           (head-at (Kernel σ) H (p .to a) a b e

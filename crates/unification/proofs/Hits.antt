@@ -18,7 +18,8 @@ use Rattle.covering.proofs.Tests.{not-of, no→false, none≢some, cond-yes, co
 use Rattle.covering.proofs.Terms.{eqAtom→eq, eqAtom-refl}
 use Rattle.unification.specs.Classes.{Kernel, Equivalence, HoldsPairs}
 use Rattle.unification.specs.Choice.{Choice, left, sent, toHead, pairing}
-use Rattle.unification.specs.Published.{memAtom, without, Puts, digits}
+use Rattle.unification.specs.Published.{memAtom, without, digits}
+use Rattle.unification.specs.Published.{PutsOn}
 use Rattle.unification.proofs.Choices.{sent-in}
 use Rattle.unification.proofs.Pairs.{holds-append}
 use Rattle.unification.proofs.Pieces.{mem→memAtom, memAtom→mem, not-not}
@@ -111,11 +112,11 @@ pub record Hit (σ : Sub) (ds : Choice) (Q H : Question) (a : Atom) : Type 0 whe
   pub atom : Atom
   pub at : getElem? H (placeOf ds Q a) ≡ some atom
   pub isHit : atom ∈ hits ds Q H
-  pub puts : Puts (Kernel σ) a atom
+  pub puts : PutsOn (Kernel σ) a atom
 
 -- classes that put an atom on the head atom at a place
 first-hit : (σ : Sub) (d : ℕ) (a : Atom) (H : Question) → HoldsPairs (Kernel σ) (toHead H d a)
-    → (b : Atom) × (getElem? H d ≡ some b) × Puts (Kernel σ) a b
+    → (b : Atom) × (getElem? H d ≡ some b) × PutsOn (Kernel σ) a b
 first-hit σ d a H h =
     let b = head-there σ H d a h in
     (b .0, b .1, hold-puts σ a (b .0) (head-at (Kernel σ) H d a (b .0) (b .1) h))
@@ -159,7 +160,7 @@ hit-there σ (suc d ∷ ds) (b ∷ Q) H x h a m =
               ∙ ap (getElem? H) (place-first (suc d) ds b Q)
               ∙ f .1;
           isHit = pushed-first (getElem? H d) (f .0) (hits ds Q H) (f .1);
-          puts = subst (λ (c : Atom). Puts (Kernel σ) c (f .0)) (sym e) (f .2);
+          puts = subst (λ (c : Atom). PutsOn (Kernel σ) c (f .0)) (sym e) (f .2);
         }
     go (inr n) below =
         let r = below n in
@@ -175,7 +176,7 @@ pub record HitBy (σ : Sub) (ds : Choice) (Q H : Question) (b : Atom) : Type 0 w
   pub atom : Atom
   pub isSent : atom ∈ sent ds Q
   pub within : b ∈ H
-  pub puts : Puts (Kernel σ) atom b
+  pub puts : PutsOn (Kernel σ) atom b
 
 pub hit-by : (σ : Sub) (ds : Choice) (Q H : Question) → HoldsPairs (Kernel σ) (pairing ds Q H) → (b : Atom)
     → b ∈ hits ds Q H → HitBy σ ds Q H b
@@ -206,7 +207,7 @@ hit-by σ (suc d ∷ ds) (a ∷ Q) H h b m =
 -- whatever puts each sent atom on its head atom holds the choice's pairs
 pub puts-pairing : (E : Term → Term → Type 0) → Equivalence E → (σ : Sub) (ds : Choice) (Q H : Question)
     → Distinct Q → HoldsPairs (Kernel σ) (pairing ds Q H)
-    → ((a b : Atom) → a ∈ sent ds Q → getElem? H (placeOf ds Q a) ≡ some b → Puts E a b) → HoldsPairs E (pairing ds Q H)
+    → ((a b : Atom) → a ∈ sent ds Q → getElem? H (placeOf ds Q a) ≡ some b → PutsOn E a b) → HoldsPairs E (pairing ds Q H)
 puts-pairing E eq σ [] Q H x h f = λ p m. absurd (List·Memᴰ·not-nil m)
 puts-pairing E eq σ (d ∷ ds) [] H x h f = λ p m. absurd (List·Memᴰ·not-nil m)
 puts-pairing E eq σ (zero ∷ ds) (a ∷ Q) H x h f =
@@ -218,7 +219,7 @@ puts-pairing E eq σ (suc d ∷ ds) (a ∷ Q) H x h f =
     f b c (List·Memᴰ·tail m)
     (place-later H (suc d) ds a b Q x m ∙ e)))
   where
-    b : (b : Atom) × (getElem? H d ≡ some b) × Puts (Kernel σ) a b
+    b : (b : Atom) × (getElem? H d ≡ some b) × PutsOn (Kernel σ) a b
     b = first-hit σ d a H (λ p n. h p (Memᴰ·append-left (pairing ds Q H) n))
 
     here : HoldsPairs E (toHead H d a)

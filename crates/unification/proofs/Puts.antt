@@ -13,7 +13,8 @@ use Rattle.covering.proofs.Tests.{none≢some}
 use Rattle.covering.proofs.Terms.{con-inj}
 use Rattle.unification.specs.Classes.{Pair, Kernel, Equivalence, HoldsPairs}
 use Rattle.unification.specs.Choice.{placePairs, atomPairs, toHead}
-use Rattle.unification.specs.Published.{Together, Puts}
+use Rattle.unification.specs.Published.{Together}
+use Rattle.unification.specs.Published.{PutsOn}
 use Rattle.unification.proofs.Pairs.{no-clash}
 
 pub together-more : {E F : Term → Term → Type 0} (ts us : List Term)
@@ -27,7 +28,7 @@ together-more (t ∷ ts) (u ∷ us) f h = (
 )
 
 pub puts-more : {E F : Term → Term → Type 0} {a b : Atom}
-    → ((t u : Term) → t ∈ a .args → u ∈ b .args → E t u → F t u) → Puts E a b → Puts F a b
+    → ((t u : Term) → t ∈ a .args → u ∈ b .args → E t u → F t u) → PutsOn E a b → PutsOn F a b
 puts-more {a = a} {b = b} f h =
     record { relations = h .relations; places = together-more (a .args) (b .args) f (h .places) }
 
@@ -41,7 +42,7 @@ places-hold E (t ∷ ts) (u ∷ us) h p m = go (List·Memᴰ·cases-cons m) (pla
     go (inl e) below = subst (λ (q : Pair). E (q .0) (q .1)) (sym e) (h .0)
     go (inr n) below = below n
 
-pub puts-hold : {E : Term → Term → Type 0} (a b : Atom) → Equivalence E → Puts E a b → HoldsPairs E (atomPairs a b)
+pub puts-hold : {E : Term → Term → Type 0} (a b : Atom) → Equivalence E → PutsOn E a b → HoldsPairs E (atomPairs a b)
 puts-hold {E} a b eq h p m = go (List·Memᴰ·cases-cons m)
   where
     go : (p ≡ (con (a .rel), con (b .rel))) ⊎ (p ∈ placePairs (a .args) (b .args)) → E (p .0) (p .1)
@@ -57,7 +58,7 @@ hold-places s (t ∷ ts) [] h = no-clash s h
 hold-places s (t ∷ ts) (u ∷ us) h =
     (h (t, u) (List·Memᴰ·head refl), hold-places s ts us (λ p m. h p (List·Memᴰ·tail m)))
 
-pub hold-puts : (s : Sub) (a b : Atom) → HoldsPairs (Kernel s) (atomPairs a b) → Puts (Kernel s) a b
+pub hold-puts : (s : Sub) (a b : Atom) → HoldsPairs (Kernel s) (atomPairs a b) → PutsOn (Kernel s) a b
 hold-puts s a b h =
     record {
       relations = con-inj (h (con (a .rel), con (b .rel)) (List·Memᴰ·head refl));

@@ -15,7 +15,8 @@ use Rattle.covering.specs.Rule.{Rule, Unknown}
 use Rattle.unification.specs.Classes.{unify, Kernel, Equivalence, HoldsPairs}
 use Rattle.unification.specs.Choice.{Choice, left, sent, pairing}
 use Rattle.unification.specs.Step.{move, guarded, valid, rewriting}
-use Rattle.unification.specs.Published.{scope, Partition, Selects, NonSeparating, PieceUnifier, beta, Together, Puts}
+use Rattle.unification.specs.Published.{scope, Partition, Selects, NonSeparating, PieceUnifier, beta, Together}
+use Rattle.unification.specs.Published.{PutsOn}
 use Rattle.unification.specs.Published.{MergesNoMore}
 use Rattle.unification.proofs.Classes.{unify-sound, least-equivalence, idempotent}
 use Rattle.unification.proofs.Choices.{sent-in, terms-sent}
@@ -55,7 +56,7 @@ within-partition S σ =
       chain = λ t v w h g. (h .0, g .1, h .2 ∙ g .2);
     }
 
-puts-atom : (σ : Sub) (a b : Atom) → Puts (Kernel σ) a b → on-atom σ a ≡ on-atom σ b
+puts-atom : (σ : Sub) (a b : Atom) → PutsOn (Kernel σ) a b → on-atom σ a ≡ on-atom σ b
 puts-atom σ a b h = atom-path (h .relations) (go (a .args) (b .args) (h .places))
   where
     go : (ts us : List Term) → Together (Kernel σ) ts us → map (on-term σ) ts ≡ map (on-term σ) us
@@ -91,19 +92,19 @@ module _ (k : ℕ) (r : Rule) (Q : Question) (below : Below k Q) (distinct : Dis
     back-of b m = hit-by σ ds Q (r′ .head) solved b m
 
     -- the terms of a sent atom and of its head atom are in the scope
-    puts-within : (a : Atom) → a ∈ A → (b : Atom) → b ∈ H → Puts (Kernel σ) a b → Puts (Within S σ) a b
+    puts-within : (a : Atom) → a ∈ A → (b : Atom) → b ∈ H → PutsOn (Kernel σ) a b → PutsOn (Within S σ) a b
     puts-within a m b n h =
         puts-more
         (λ t v x y e.
         (Memᴰ·append-left (terms H) (terms-in A m x), Memᴰ·append-right (terms A) (terms-in H n y), e))
         h
 
-    near-puts : (a b : Atom) → a ∈ A → getElem? (r′ .head) (placeOf ds Q a) ≡ some b → Puts (SameOrWithin S σ) a b
+    near-puts : (a b : Atom) → a ∈ A → getElem? (r′ .head) (placeOf ds Q a) ≡ some b → PutsOn (SameOrWithin S σ) a b
     unfolding SameOrWithin
     near-puts a b m e =
         let x = hit-of a m in
         let same : x .atom ≡ b = Option·some-injective (x .atom) b (sym (x .at) ∙ e) in
-        subst (λ (c : Atom). Puts (SameOrWithin S σ) a c) same
+        subst (λ (c : Atom). PutsOn (SameOrWithin S σ) a c) same
         (puts-more (λ t v y z h. inr h) (puts-within a m (x .atom) (x .isHit) (x .puts)))
 
     -- a term is what stands for it, or both are in the scope

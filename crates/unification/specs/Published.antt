@@ -87,7 +87,7 @@ Together E (t ∷ ts) [] = ⊥
 Together E (t ∷ ts) (u ∷ us) = E t u × Together E ts us
 
 -- E puts atom a on atom b: "relations must agree; terms at equal places are put in one class"
-pub record Puts (E : Term → Term → Type 0) (a b : Atom) : Type 0 where
+pub record PutsOn (E : Term → Term → Type 0) (a b : Atom) : Type 0 where
   pub relations : a .rel ≡ b .rel
   pub places : Together E (a .args) (b .args)
 
@@ -96,14 +96,14 @@ pub record Paired {Q : Question} {r : Rule} (μ : PieceUnifier Q r) (to : Atom �
   pub atom : Atom
   pub at : getElem? (r .head) (to a) ≡ some atom
   pub in-part : atom ∈ μ .part
-  pub puts : Puts (μ .P) a atom
+  pub puts : PutsOn (μ .P) a atom
 
 -- μ merges no more than its pairing needs: each unified question atom is put on its one head atom, the one at the
 -- place `to` of it, and the partition is finer than any equivalence that does the same
 pub record MergesNoMore {Q : Question} {r : Rule} (μ : PieceUnifier Q r) (to : Atom → ℕ) : Type 1 where
   pub paired : (a : Atom) → a ∈ μ .unified → Paired μ to a
   pub least : (E : Term → Term → Type 0) → Equivalence E
-      → ((a b : Atom) → a ∈ μ .unified → getElem? (r .head) (to a) ≡ some b → Puts E a b)
+      → ((a b : Atom) → a ∈ μ .unified → getElem? (r .head) (to a) ≡ some b → PutsOn E a b)
       → (t v : Term) → μ .P t v → E t v
 
 -- a pairing as 01 writes it: "0 leaves it, 1 to h sends it to that head atom"
