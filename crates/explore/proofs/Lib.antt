@@ -1,7 +1,7 @@
 -- The laws that the exploration's functions cite: of the records handed on, of what a turn of each loop keeps, of what
 -- each return shows.
 pub mod Records
-pub mod Pasting
+pub mod Words
 -- the next rewriting, and those yet to come
 pub mod Among
 pub mod Coming

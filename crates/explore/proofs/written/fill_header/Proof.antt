@@ -1,6 +1,6 @@
 -- `explore::written::fill_header` meets its contract: four words put one after the other at the front.
 use borrow.Author.Needs.{needs}
-use Rattle.explore.proofs.Pasting.{header-put}
+use Rattle.explore.proofs.Words.{header-put}
 use Rattle.explore.proofs.written.fill_header.Statement.{statement}
 use Rattle.explore.proofs.written.fill_header.Tie as tie
 

@@ -2,7 +2,7 @@
 use borrow.Author.Needs.{needs}
 use native.Mathlib.Omega.{arith}
 use lib.ListN.{length-set}
-use Rattle.explore.proofs.Pasting.{word-put}
+use Rattle.explore.proofs.Words.{word-put}
 use Rattle.explore.proofs.written.put_word.Statement.{statement}
 use Rattle.explore.proofs.written.put_word.Tie as tie
 

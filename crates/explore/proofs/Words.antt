@@ -1,4 +1,4 @@
--- Laws of a copy into a working array (`paste`). Assumes nothing.
+-- Laws of 16-bit words put into the working array. Assumes nothing.
 use mathlib.Core.Path.{_≡_, _∙_, ap}
 use mathlib.Core.List.{List, _++_, append-assoc}
 use Prim.Native.Nat.{ℕ, _+_, _-_, _/_, _%_, _≤_}
