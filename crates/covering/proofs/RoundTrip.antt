@@ -235,7 +235,8 @@ module _ (L : Layout) (ap-L : TellsApart L) (B : List ℕ) where
       ∙ sym (take-add (size L) (n * size L) (drop i B))
       ∙ ap (λ m. take m (drop i B)) (one-more n (size L))
 
-pub bytes-round : (L : Layout) → TellsApart L → (B : List ℕ) (A : Question) → recordOf L B ≡ some A → recordBytes L A ≡ B
+pub bytes-round : (L : Layout) → TellsApart L → (B : List ℕ) (A : Question) → recordOf L B ≡ some A
+    → recordBytes L A ≡ B
 unfolding recordBytes questionOf
 bytes-round L ap-L B A e = go (either (isRecord L B))
   where

@@ -66,7 +66,8 @@ pub record Demand2 (book out : List ℕ) (number place : ℕ) (after : List ℕ)
       → ((n, X) ∈ listed apart r M) ↔ Publishes apart r M n X
   -- "Any other published one merges more than its pairing needs; its rewriting must be covered by that of some valid
   -- choice."
-  pub others-covered : SoundBook book → {M : Question} → Explores book M → (r : Rule) (μ : PieceUnifier M (move apart r))
+  pub others-covered : SoundBook book → {M : Question} → Explores book M
+      → (r : Rule) (μ : PieceUnifier M (move apart r))
       → (n : ℕ) × (P : Question) × ((n, P) ∈ listed apart r M) × Covers P (beta μ)
 
 -- DEMAND 3. "If the number is 0:"

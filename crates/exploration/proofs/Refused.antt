@@ -17,7 +17,8 @@ use Rattle.reading.specs.Refusals.{ApplicableToBook}
 use Rattle.reading.specs.Verdict.{IsVerdict, sound, refused as refused-book, verdict, SoundBook}
 use Rattle.reading.proofs.Exact.{verdict-exact, number-from}
 use Rattle.reading.proofs.SoundBook.{sound-none}
-use Rattle.exploration.specs.Run.{limits, Why, too-long, no-room, none-left, refusalNumber, Outcome, complete, refused}
+use Rattle.exploration.specs.Run.{limits, Why, too-long, no-room, none-left, refusalNumber, Outcome, complete}
+use Rattle.exploration.specs.Run.{refused}
 use Rattle.exploration.specs.Run.{allRewritings}
 use Rattle.exploration.specs.Union.{outputSize}
 use Rattle.exploration.specs.Answer.{Result, union, refusal, resultOf, outcomeOf, result}

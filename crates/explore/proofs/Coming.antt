@@ -89,7 +89,8 @@ module _ (M : Question) (k n : ℕ) (rules : List Rule) (t : Taken) (e : t ≡ t
   pub given-none : t .found ≡ false → coming M n (drop k rules) ≡ []
   given-none f = go (nextAmong M k n (drop k rules)) refl e
     where
-      go : (o : Option NumberedRewriting) → nextAmong M k n (drop k rules) ≡ o → t ≡ taken o → coming M n (drop k rules) ≡ []
+      go : (o : Option NumberedRewriting) → nextAmong M k n (drop k rules) ≡ o → t ≡ taken o
+          → coming M n (drop k rules) ≡ []
       go none x y = next-none M k n (drop k rules) x
       go (some z) x y = absurd (true≢false (sym (ap (λ (u : Taken). u .found) y) ∙ f))
 

@@ -74,7 +74,8 @@ nth-sound B (suc n) (suc e) i lt t =
     same = omega arith
 nth-sound B zero e i lt t = absurd (omega arith)
 
-pub nth-fits : (B : List ℕ) (n e i : ℕ) → e < n → T (areAtoms inBook B i n) → AtomFits inBook (atomAt desk B (i + e * 5))
+pub nth-fits : (B : List ℕ) (n e i : ℕ) → e < n → T (areAtoms inBook B i n)
+    → AtomFits inBook (atomAt desk B (i + e * 5))
 nth-fits B n e i lt t =
     subst (AtomFits inBook) (atom-means inBook desk book-desk B (i + e * 5))
     (atom-fits inBook book-apart B (omega arith) (i + e * 5) (nth-sound B n e i lt t))

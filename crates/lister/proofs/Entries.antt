@@ -84,7 +84,8 @@ module _ (Good : Term → Type 0) where
   place-ends g h (t ∷ ts) (u ∷ us) f k p (List·Memᴰ·tail m) =
       place-ends g h ts us (λ x i. f x (List·Memᴰ·tail i)) (λ x i. k x (List·Memᴰ·tail i)) p m
 
-  pub atom-ends : ((c : ℕ) → c ≡ 0 → Good (con c)) → Good (con 1) → (a b : Atom) → Good (con (a .rel)) → Good (con (b .rel))
+  pub atom-ends : ((c : ℕ) → c ≡ 0 → Good (con c)) → Good (con 1) → (a b : Atom) → Good (con (a .rel))
+      → Good (con (b .rel))
       → ((t : Term) → t ∈ a .args → Good t) → ((t : Term) → t ∈ b .args → Good t) → EntriesEnd (atomPairs a b)
   atom-ends g h a b ga gb f k p (List·Memᴰ·head e) =
       (subst (λ q. Good (q .0)) (sym e) ga, subst (λ q. Good (q .1)) (sym e) gb)

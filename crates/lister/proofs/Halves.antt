@@ -65,7 +65,8 @@ fits-all (x ∷ m) f t i = go (List·Memᴰ·cases-cons i) (λ j. fits-all m (λ
     go (inl e) below = subst (TermFits desk) (sym e) (f 0 (omega arith))
     go (inr j) below = below j
 
-pub upper-fits : (table upper : List ℕ) → ClassesFit table → length table ≡ 64 → UpperHalf table upper → ClassesFit upper
+pub upper-fits : (table upper : List ℕ) → ClassesFit table → length table ≡ 64 → UpperHalf table upper
+    → ClassesFit upper
 upper-fits table upper fit long u = fits-all upper (λ n h. go n (omega (arith, u .size)) (either (ltb n 32)))
   where
     at : (n : ℕ) → n < 64 → TermFits desk (termOf (getD table n 0))

@@ -32,7 +32,8 @@ module _ {X : Type 0} (f : ℕ → Option X) where
   pub digits-hit : (d n : ℕ) {x : X} → 0 < n → f d ≡ some x → firstOf f (numbers d n) ≡ some x
   digits-hit d (suc n) h e = rw e
 
-  pub digits-miss : (d n m e : ℕ) → n ≡ suc m → e ≡ suc d → f d ≡ none → firstOf f (numbers d n) ≡ firstOf f (numbers e m)
+  pub digits-miss : (d n m e : ℕ) → n ≡ suc m → e ≡ suc d → f d ≡ none
+      → firstOf f (numbers d n) ≡ firstOf f (numbers e m)
   digits-miss d n m e p q r = rw (p, q, r)
 
 -- the choices of a prefix with one digit more lie within those of the prefix
@@ -97,7 +98,8 @@ module _ (k : ℕ) (r : Rule) (n : ℕ) (w : ℕ) (A : Question) (b : Bool) (m :
   digit-skips a q zero h = table-skips k r n q (more (tableBuilder k r n) w 0) (A ++ a ∷ []) b m h
   digit-skips a q (suc e) h = go (unifyTable (toHead ((move k r) .head) e a) m)
     where
-      go : (o : Option Table) → bind o (λ τ. first (tableBuilder k r n) (more (tableBuilder k r n) w (suc e)) A true q τ) ≡ none
+      go : (o : Option Table)
+          → bind o (λ τ. first (tableBuilder k r n) (more (tableBuilder k r n) w (suc e)) A true q τ) ≡ none
       go none = refl
       go (some τ) = table-skips k r n q (more (tableBuilder k r n) w (suc e)) A true τ h
 

@@ -105,7 +105,8 @@ pub filling-room : (A : List ℕ) (n : ℕ) → Filling A n → 0 < n → RoomLe
 filling-room A n f h = grows-room desk desk-apart 56 A (questionOf desk A) n (filling-grows A n f) h
 
 pub filling-put : (A R : List ℕ) (n : ℕ) (a : Atom) → Filling A n → 0 < n → AtomFits desk a
-    → R ≡ heldIn desk 56 (questionOf desk A ++ a ∷ []) → Filling R (n - 1) × (questionOf desk R ≡ questionOf desk A ++ a ∷ [])
+    → R ≡ heldIn desk 56 (questionOf desk A ++ a ∷ [])
+    → Filling R (n - 1) × (questionOf desk R ≡ questionOf desk A ++ a ∷ [])
 filling-put A R n a f h fit e =
     let g = grows-put desk desk-apart 56 A (questionOf desk A) n (filling-grows A n f) R a fit h e in (
       grows-filling R (questionOf desk A ++ a ∷ []) (n - 1) g,

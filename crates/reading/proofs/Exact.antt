@@ -23,7 +23,8 @@ module _ (B : List ℕ) where
   -- the verdict among the numbers from n on
   data From (n : ℕ) (r : Refusal) : Type 0 where
     all-sound : r ≡ accepted → ((m p : ℕ) → n ≤ m → ApplicableToBook B m p → ⊥) → From n r
-    one-refused : ApplicableToBook B (r .number) (r .place) → ((m q : ℕ) → n ≤ m → ApplicableToBook B m q → NoLater r m q) → From n r
+    one-refused : ApplicableToBook B (r .number) (r .place)
+        → ((m q : ℕ) → n ≤ m → ApplicableToBook B m q → NoLater r m q) → From n r
 
   -- one number more, before the others
   step : (n : ℕ) {o : Option ℕ} (r : Refusal) → Earliest (ApplicableToBook B n) o → (o ≡ none → From (n + 1) r)

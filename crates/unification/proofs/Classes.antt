@@ -212,5 +212,6 @@ idempotent ps σ e t =
     (near-term (Kernel σ) (kernel-admissible σ) (r .classes) (r .near) t)
 
 -- If no classes are found, every equivalence that holds the pairs has two constants in one class
-pub clash-means : (ps : List Pair) → unify ps var ≡ none → (E : Term → Term → Type 0) → Admissible E → HoldsPairs E ps → ⊥
+pub clash-means : (ps : List Pair) → unify ps var ≡ none → (E : Term → Term → Type 0) → Admissible E
+    → HoldsPairs E ps → ⊥
 clash-means ps e E ad h = none≢some (sym e ∙ unify-least E ad ps var (λ n. ad .eq .same (var n)) h .found)

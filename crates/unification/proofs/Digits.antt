@@ -61,7 +61,8 @@ module _ (A : Question) (to : Atom → ℕ) where
           omega arith
       small (inr t) = let e : digit a ≡ 0 = cond-no (memAtom a A) (suc (to a)) 0 t in omega arith
 
-  pub digits-hold : (E : Term → Term → Type 0) (Q H : Question) → ((a : Atom) → a ∈ A → HoldsPairs E (toHead H (to a) a))
+  pub digits-hold : (E : Term → Term → Type 0) (Q H : Question)
+      → ((a : Atom) → a ∈ A → HoldsPairs E (toHead H (to a) a))
       → HoldsPairs E (pairing (digits A to Q) Q H)
   digits-hold E [] H f = λ p m. absurd (List·Memᴰ·not-nil m)
   digits-hold E (a ∷ Q) H f = go (decide (memAtom a A)) (digits-hold E Q H f)
@@ -76,7 +77,8 @@ module _ (A : Question) (to : Atom → ℕ) where
           subst (λ (d : ℕ). HoldsPairs E (pairing (d ∷ digits A to Q) (a ∷ Q) H))
           (sym (cond-no (memAtom a A) (suc (to a)) 0 t)) below
 
-  pub digits-held : (E : Term → Term → Type 0) (Q H : Question) → HoldsPairs E (pairing (digits A to Q) Q H) → (a : Atom)
+  pub digits-held : (E : Term → Term → Type 0) (Q H : Question) → HoldsPairs E (pairing (digits A to Q) Q H)
+      → (a : Atom)
       → a ∈ Q → a ∈ A → HoldsPairs E (toHead H (to a) a)
   digits-held E [] H h a m n = absurd (List·Memᴰ·not-nil m)
   digits-held E (b ∷ Q) H h a m n =

@@ -25,7 +25,8 @@ use Rattle.unification.specs.Step.{up, move, memTerm, listed}
 use Rattle.unification.specs.Published.{without, scope, PieceUnifier, digits, Publishes}
 use Rattle.unification.specs.Published.{PutsOn}
 use Rattle.unification.proofs.Classes.{Least, unify-least, unify-sound, kernel-admissible}
-use Rattle.unification.proofs.Digits.{some-sent, digits-leave, digits-send, digits-among, digits-hold, digits-held}
+use Rattle.unification.proofs.Digits.{some-sent, digits-leave, digits-send, digits-among, digits-hold}
+use Rattle.unification.proofs.Digits.{digits-held}
 use Rattle.unification.proofs.Hits.{placeOf, digits-back}
 use Rattle.unification.proofs.Listed.{Made, listed-out, listed-in}
 use Rattle.unification.proofs.Numbers.{choice-length, listed-ascending, ascending-same}

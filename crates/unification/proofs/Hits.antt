@@ -207,7 +207,8 @@ hit-by σ (suc d ∷ ds) (a ∷ Q) H h b m =
 -- whatever puts each sent atom on its head atom holds the choice's pairs
 pub puts-pairing : (E : Term → Term → Type 0) → Equivalence E → (σ : Sub) (ds : Choice) (Q H : Question)
     → Distinct Q → HoldsPairs (Kernel σ) (pairing ds Q H)
-    → ((a b : Atom) → a ∈ sent ds Q → getElem? H (placeOf ds Q a) ≡ some b → PutsOn E a b) → HoldsPairs E (pairing ds Q H)
+    → ((a b : Atom) → a ∈ sent ds Q → getElem? H (placeOf ds Q a) ≡ some b → PutsOn E a b)
+    → HoldsPairs E (pairing ds Q H)
 puts-pairing E eq σ [] Q H x h f = λ p m. absurd (List·Memᴰ·not-nil m)
 puts-pairing E eq σ (d ∷ ds) [] H x h f = λ p m. absurd (List·Memᴰ·not-nil m)
 puts-pairing E eq σ (zero ∷ ds) (a ∷ Q) H x h f =

@@ -46,7 +46,8 @@ atom-holds s a b e p m = go (List·Memᴰ·cases-cons m)
     go (inl q) = rw q (ap (λ (c : Atom). con (c .rel)) e)
     go (inr n) = zip-holds s (a .args) (b .args) (ap (λ (c : Atom). c .args) e) p n
 
-pub holds-append : (E : Term → Term → Type 0) (ps qs : List Pair) → HoldsPairs E ps → HoldsPairs E qs → HoldsPairs E (ps ++ qs)
+pub holds-append : (E : Term → Term → Type 0) (ps qs : List Pair) → HoldsPairs E ps → HoldsPairs E qs
+    → HoldsPairs E (ps ++ qs)
 holds-append E ps qs f g p m = go (List·Memᴰ·append-cases ps m)
   where
     go : (p ∈ ps) ⊎ (p ∈ qs) → E (p .0) (p .1)

@@ -15,7 +15,8 @@ use Rattle.rewriting_examples.proofs.tell.Statement.{statement}
 use Rattle.rewriting_examples.proofs.tell.Tie as tie
 
 -- what the callers of the readers show: that the book was not refused, and has a rule
-is-sound : (c : tie.Else1) → SoundBook (c .before .before .before .before .before .before .before .before .args .book .now)
+is-sound : (c : tie.Else1)
+    → SoundBook (c .before .before .before .before .before .before .before .before .args .book .now)
 is-sound c = ap (λ (r : Refusal). r .number) (sym (c .before .before .check .ensures)) ∙ c .if1 .left
 
 has-rule : (c : tie.Else2)

@@ -5,7 +5,8 @@ use Prim.Native.Nat.{_+_}
 use Rattle.reading.specs.declared.Header.{Header}
 use Rattle.reading.specs.Verdict.{told, wrongPlaces, wrongRule}
 use Rattle.book.proofs.JudgedHeader.{known, judged}
-use Rattle.book.proofs.JudgingSteps.{same-number, five, six, told-none, contents-five, contents-six, contents-seven}
+use Rattle.book.proofs.JudgingSteps.{same-number, five, six, told-none, contents-five, contents-six}
+use Rattle.book.proofs.JudgingSteps.{contents-seven}
 use Rattle.book.proofs.judge.contents.Statement.{statement}
 use Rattle.book.proofs.judge.contents.Tie as tie
 

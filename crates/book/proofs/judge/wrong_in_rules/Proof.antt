@@ -8,7 +8,8 @@ use native.Mathlib.Nat.{sub-zero}
 use lib.ListN.{length}
 use Rattle.reading.specs.Book.{bodyCount, headCount, ruleEnd}
 use Rattle.reading.specs.Verdict.{told, wrongRule, wrongInAtoms, wrongInRules}
-use Rattle.book.proofs.JudgingSteps.{same-number, else-found, else-next, NextRule, next-rule, bytes-end, bytes-more}
+use Rattle.book.proofs.JudgingSteps.{same-number, else-found, else-next, NextRule, next-rule, bytes-end}
+use Rattle.book.proofs.JudgingSteps.{bytes-more}
 use Rattle.book.proofs.judge.wrong_in_rules.Statement.{statement}
 use Rattle.book.proofs.judge.wrong_in_rules.Tie as tie
 

@@ -7,7 +7,8 @@ use native.Mathlib.Nat.{sub-zero}
 use mathlib.Core.Bool.{Bool, cond}
 use Rattle.reading.specs.Book.{ruleEnd}
 use Rattle.reading.specs.Verdict.{told, wrongRule}
-use Rattle.book.proofs.JudgingSteps.{rules-end-right, rules-end-wrong, rules-stop, rules-pass, end-wrong, end-right}
+use Rattle.book.proofs.JudgingSteps.{rules-end-right, rules-end-wrong, rules-stop, rules-pass, end-wrong}
+use Rattle.book.proofs.JudgingSteps.{end-right}
 use Rattle.reading.proofs.Conditions.{rule-right}
 use Rattle.covering.proofs.Tests.{true→T}
 use Rattle.book.proofs.judge.wrong_rule.Statement.{statement}

@@ -14,7 +14,8 @@ use Rattle.cover.proofs.desk.covers.Tie as tie
 first-is : (c : tie.Else2) → isRecord desk (c .before .before .before .before .before .before .args .first .now) ≡ true
 first-is c = sym (c .before .before .before .is-record .ensures) ∙ not-false _ (c .before .before .if1 .left)
 
-second-is : (c : tie.Else2) → isRecord desk (c .before .before .before .before .before .before .args .second .now) ≡ true
+second-is : (c : tie.Else2)
+    → isRecord desk (c .before .before .before .before .before .before .args .second .now) ≡ true
 second-is c = sym (c .before .is-record2 .ensures) ∙ not-false _ (c .if2 .left)
 
 is-record-requires : tie.Need-is-record-requires

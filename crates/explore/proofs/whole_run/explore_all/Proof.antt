@@ -11,7 +11,8 @@ use Rattle.reading.proofs.SoundBook.{sound-long}
 use Rattle.reading.proofs.Fits.{allowed-few}
 use Rattle.explore.proofs.Among.{rules-read}
 use Rattle.explore.proofs.Running.{Running, first-sound, first-fits, first-running, running-next}
-use Rattle.explore.proofs.Running.{outcome-complete, outcome-ten, outcome-refused, taken-working, member-of, allowed-read}
+use Rattle.explore.proofs.Running.{outcome-complete, outcome-ten, outcome-refused, taken-working, member-of}
+use Rattle.explore.proofs.Running.{allowed-read}
 use Rattle.explore.proofs.whole_run.explore_all.Statement.{statement}
 use Rattle.explore.proofs.whole_run.explore_all.Tie as tie
 

@@ -47,7 +47,8 @@ within : (t : ℕ) (s : put-members-lts.Start (calls t) (at-measure t) put-membe
     → memberEnd (s .args .output .now) (s .args .i) ≤ length (s .args .output .now)
 within t s h = stands-within (s .args .output .now) (s .args .i) (s .args .n) h (s .pre .1 .0)
 
-shared-slice-read-width : (t : ℕ) → put-members-lts.Need-shared-slice-read-width (calls t) (at-measure t) put-members.Post
+shared-slice-read-width : (t : ℕ)
+    → put-members-lts.Need-shared-slice-read-width (calls t) (at-measure t) put-members.Post
 shared-slice-read-width t c = let s = c .before .before .before .before in omega (arith, within t s (omega arith))
 
 width-requires : (t : ℕ) → put-members-lts.Need-width-requires (calls t) (at-measure t) put-members.Post
