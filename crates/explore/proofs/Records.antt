@@ -7,15 +7,11 @@ use Rattle.covering.specs.Lists.{_∈_}
 use Rattle.covering.specs.Term.{Question}
 use Rattle.covering.specs.Record.{desk, questionOf, Fits, SoundRecord}
 use Rattle.covering.specs.Buffer.{heldIn}
-use Rattle.covering.proofs.Wider.{fits-wider}
 use Rattle.covering.proofs.Padded.{desk-question, desk-sound}
 use Rattle.reading.specs.Book.{bookOf, layoutOf}
 use Rattle.reading.specs.Verdict.{SoundBook}
 use Rattle.reading.proofs.SoundBook.{desk-room}
 use Rattle.reading.proofs.Fits.{question-record}
-use Rattle.unify.specs.InBytes.{inBook}
-use Rattle.lister.specs.Asking.{QuestionIn}
-use Rattle.lister.proofs.FromBook.{held-in, own-wider}
 use Rattle.exploration.specs.Run.{allRewritings}
 use Rattle.exploration.proofs.OfBook.{desk-fits, rewriting-desk}
 
@@ -24,15 +20,12 @@ pub question-desk : (B : List ℕ) → SoundBook B → Fits desk (bookOf B .ques
 question-desk B s = question-record B desk (desk-room B s) s (omega arith)
 
 module _ (B : List ℕ) (s : SoundBook B) (M : Question) (m : Fits (layoutOf B) M) where
-  -- the record of a member can be handed to covering and to the lister
+  -- the record of a member can be handed to covering; to the lister it can by `member-in` there
   pub member-question : questionOf desk (heldIn desk 56 M) ≡ M
   member-question = desk-question M (desk-fits B s m)
 
   pub member-sound : SoundRecord desk (heldIn desk 56 M)
   member-sound = desk-sound M (desk-fits B s m)
-
-  pub member-in : QuestionIn (heldIn desk 56 M)
-  member-in = held-in M (fits-wider (layoutOf B) inBook (own-wider B s) (omega arith) m)
 
   -- and that of a rewriting of it to covering
   module _ (P : Question) (x : P ∈ allRewritings (bookOf B .rules) M) where

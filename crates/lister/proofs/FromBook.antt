@@ -9,7 +9,7 @@ use native.Mathlib.Omega.{arith}
 use lib.ListN.{length, getD}
 use Rattle.covering.specs.Term.{Question}
 use Rattle.covering.specs.Record.{desk, questionOf, Fits, SoundRecord}
-use Rattle.covering.proofs.Wider.{Wider}
+use Rattle.covering.proofs.Wider.{Wider, fits-wider}
 use Rattle.covering.proofs.Lengths.{count-atoms, question-count}
 use Rattle.covering.specs.Buffer.{heldIn}
 use Rattle.covering.proofs.Padded.{held-sound, held-written}
@@ -41,7 +41,7 @@ held-in M fits = subst QuestionIn (held-written inBook desk book-desk 56 M) own
     own = record { atoms = record { fits = s .fits; sound = s .atoms }; few = s .most }
 
 module _ (B : List ℕ) (s : SoundBook B) where
-  pub own-wider : Wider (layoutOf B) inBook
+  own-wider : Wider (layoutOf B) inBook
   own-wider =
       record {
         relations = sound-header B s .few-relations;
@@ -49,6 +49,10 @@ module _ (B : List ℕ) (s : SoundBook B) where
         variables = omega arith;
         constants = sound-header B s .few-constants;
       }
+
+  -- the record of a question that keeps to this book's own bounds
+  pub member-in : (M : Question) → Fits (layoutOf B) M → QuestionIn (heldIn desk 56 M)
+  member-in M m = held-in M (fits-wider (layoutOf B) inBook own-wider (omega arith) m)
 
   room : BookRoom B inBook
   room =

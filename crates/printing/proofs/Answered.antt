@@ -26,7 +26,8 @@ use Rattle.exploration.proofs.Given.{Whole, kind, members-are, explored-is, the
 use Rattle.exploration.proofs.Given.{whole-given}
 use Rattle.printing.specs.Printed.{printed}
 use Rattle.printing.specs.Put.{Puts}
-use Rattle.printing.specs.Answer.{resultIn, Stands, Printable, textSize, linesOf}
+use Rattle.printing.specs.Answer.{textSize, linesOf}
+use Rattle.printing.specs.Printable.{resultIn, Stands, Printable}
 use Rattle.printing.proofs.Putting.{put-none, put-as}
 use Rattle.printing.proofs.Longest.{union-most, refusal-most}
 

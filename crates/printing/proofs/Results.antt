@@ -11,7 +11,7 @@ use Rattle.exploration.proofs.UnionBytes.{members-of}
 use Rattle.exploration.proofs.Members.{members-count}
 use Rattle.exploration.specs.Standing.{Standing}
 use Rattle.printing.specs.Printed.{ascii, memberLine, line, printed}
-use Rattle.printing.specs.Answer.{resultIn, Stands}
+use Rattle.printing.specs.Printable.{resultIn, Stands}
 
 -- the header's words that are read
 pub record Words (W : List ℕ) (m e f : ℕ) : Type 0 where
