@@ -3,6 +3,5 @@ pub mod Printed
 pub mod Put
 pub mod Answer
 pub mod Examples
-
 -- What only the contract of this crate's own `print` is said with.
 pub mod Printable
