@@ -151,7 +151,8 @@ module _ {book out : List ℕ} {number place : ℕ} {after : List ℕ} (given : 
           let zero : number ≡ 0 = number-is ∙ ap (λ (r : Result). answer r .0) e in
           let front = union-length (whole-given zero .members) (whole-given zero .explored) in
           let whole =
-          length-append (unionBytes (whole-given zero .members) (whole-given zero .explored)) (drop (total (whole-given zero .members)) out) in
+          length-append (unionBytes (whole-given zero .members) (whole-given zero .explored))
+          (drop (total (whole-given zero .members)) out) in
           let back = length-drop (total (whole-given zero .members)) out in
           let fits = place-most zero in
           let room = output-roomy zero in

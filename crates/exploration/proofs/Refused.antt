@@ -14,7 +14,7 @@ use Rattle.covering.specs.Search.{covers}
 use Rattle.covering.proofs.Tests.{decide, clash, cond-yes, cond-no}
 use Rattle.reading.specs.Book.{bookOf}
 use Rattle.reading.specs.Refusals.{ApplicableToBook}
-use Rattle.reading.specs.Verdict.{IsVerdict, sound, refused as refused-book, verdict, SoundBook}
+use Rattle.reading.specs.Verdict.{NoLater, IsVerdict, sound, refused as refused-book, verdict, SoundBook}
 use Rattle.reading.proofs.Exact.{verdict-exact, number-from}
 use Rattle.reading.proofs.SoundBook.{sound-none}
 use Rattle.exploration.specs.Run.{limits, Why, too-long, no-room, none-left, refusalNumber, Outcome, complete}
@@ -40,11 +40,11 @@ module _ (B : List ℕ) where
 
   -- a refused book
   verdict-refused : ¬ (SoundBook B) → ApplicableToBook B (verdict B .number) (verdict B .place)
-      × ((m q : ℕ) → ApplicableToBook B m q → (verdict B .number < m) ⊎ ((verdict B .number ≡ m) × (verdict B .place ≤ q)))
+      × ((m q : ℕ) → ApplicableToBook B m q → NoLater (verdict B) m q)
   verdict-refused f = go (verdict-exact B)
     where
       go : IsVerdict B (verdict B) → ApplicableToBook B (verdict B .number) (verdict B .place)
-          × ((m q : ℕ) → ApplicableToBook B m q → (verdict B .number < m) ⊎ ((verdict B .number ≡ m) × (verdict B .place ≤ q)))
+          × ((m q : ℕ) → ApplicableToBook B m q → NoLater (verdict B) m q)
       go (sound e g) = absurd (f (ap (λ v. v .number) e))
       go (refused-book a g) = (a, g)
 
