@@ -1,4 +1,5 @@
--- What only the contracts of this crate's functions, and of the code above, are said with: the builder, and how the
--- code holds what is asked and answered. What `next` gives is `unification`'s.
+-- What only the contracts of this crate's functions, and of the code above, are said with: the table of counts, the
+-- builder, and how the code holds what is asked and answered. What `next` gives is `unification`'s.
+pub mod Counts
 pub mod Build
 pub mod Asking

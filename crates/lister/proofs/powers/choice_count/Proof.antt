@@ -1,27 +1,20 @@
--- `lister::powers::choice_count` meets its contract: the rule of the table is one test that is computed at every
--- entry.
+-- `lister::powers::choice_count` meets its contract: the code's table is that of `specs/Counts`, whose rule is one test
+-- that is computed at every entry.
 use borrow.Author.Needs.{needs}
 use native.Mathlib.Omega.{arith}
 use mathlib.Core.Path.{_≡_}
 use mathlib.Core.Bool.{Bool}
-use mathlib.Core.List.{List, [], _∷_}
+use mathlib.Core.List.{[]}
 use Prim.Native.Nat.{ℕ, suc, _-_, _^_}
 use lib.ListN.{getD}
 use lib.Dec.{eqb, eqb→eq}
+use Rattle.lister.specs.Counts.{counts}
 use Rattle.unify.proofs.Each.{below, at}
 use Rattle.lister.proofs.powers.choice_count.Statement.{statement}
 use Rattle.lister.proofs.powers.choice_count.Tie as tie
 
-table : List (List ℕ)
-table =
-    (1 ∷ 2 ∷ 4 ∷ 8 ∷ 16 ∷ 32 ∷ 64 ∷ 128 ∷ 256 ∷ [])
-    ∷ (1 ∷ 3 ∷ 9 ∷ 27 ∷ 81 ∷ 243 ∷ 729 ∷ 2187 ∷ 6561 ∷ [])
-    ∷ (1 ∷ 4 ∷ 16 ∷ 64 ∷ 256 ∷ 1024 ∷ 4096 ∷ 16384 ∷ 65536 ∷ [])
-    ∷ (1 ∷ 5 ∷ 25 ∷ 125 ∷ 625 ∷ 3125 ∷ 15625 ∷ 78125 ∷ 390625 ∷ [])
-    ∷ []
-
 right : ℕ → ℕ → Bool
-right h n = eqb (getD (getD table h []) n 0) (suc (suc h) ^ n)
+right h n = eqb (getD (getD counts h []) n 0) (suc (suc h) ^ n)
 
 sub-result : tie.Need-sub-result
 sub-result c = search needs
@@ -39,7 +32,7 @@ index-2-result : tie.Need-index-2-result
 index-2-result c = search needs
 
 returns : tie.Need-returns
-unfolding table right
+unfolding counts right
 returns c =
     let h = c .before .args .h - 1 in
     let e : suc (c .before .args .h) ≡ suc (suc h) = omega arith in
