@@ -24,8 +24,9 @@ pub mod Begun
 -- what fits a record; another layout
 pub mod Fitting
 pub mod Wider
--- the desk's answers
+-- the desk's answers and limits
 pub mod Answers
+pub mod Limits
 -- records and atoms in a buffer
 pub mod Padded
 pub mod Within
