@@ -1,7 +1,7 @@
 //! The stored book: reading it and writing it. Where its parts stand is in `layout`, what
 //! is refused in `refuse`.
 
-use crate::layout::{self, Header, RuleAt, ATOM, FIRST_CONSTANT, HEADER, UNUSED};
+use crate::layout::{self, Header, RuleAt, ANSWER, ATOM, FIRST_CONSTANT, HEADER, UNUSED};
 use crate::refuse::{faults, least, Fault};
 use crate::seen::{Behaviour, Seen};
 use crate::term::{Atom, Question, Rule, Term};
@@ -39,12 +39,11 @@ fn decode(bytes: &[u8]) -> Book {
     let header = Header::of(bytes).unwrap();
     let places = &bytes[HEADER..HEADER + header.relations];
     let rules = layout::rules(&header, bytes).found;
-    let question = bytes[header.question_at..].chunks(ATOM);
     Book {
         relations: places.iter().map(|&places| places as usize).collect(),
         constants: header.constants,
         rules: rules.iter().map(|rule| decode_rule(bytes, rule)).collect(),
-        question: question.map(decode_atom).collect(),
+        question: decode_question(&bytes[header.question_at..]),
         allowed: header.allowed,
     }
 }
@@ -58,21 +57,54 @@ fn decode_rule(bytes: &[u8], rule: &RuleAt) -> Rule {
     }
 }
 
+/// The question that these bytes hold, five for each atom and for the answer record, which
+/// stands first if there is one. A sound question has no relation 255.
+pub fn decode_question(bytes: &[u8]) -> Question {
+    let (answer, atoms) = match bytes.first() == Some(&ANSWER) {
+        true => bytes.split_at(ATOM),
+        false => bytes.split_at(0),
+    };
+    Question {
+        answer: answer.chunks(ATOM).flat_map(decode_terms).collect(),
+        atoms: atoms.chunks(ATOM).map(decode_atom).collect(),
+    }
+}
+
 /// The atom that five bytes hold.
-pub fn decode_atom(bytes: &[u8]) -> Atom {
+fn decode_atom(bytes: &[u8]) -> Atom {
+    Atom::new(bytes[0] as usize, decode_terms(bytes))
+}
+
+/// The terms in the used places of an atom or an answer record.
+fn decode_terms(bytes: &[u8]) -> Vec<Term> {
     let used = bytes[1..].iter().take_while(|&&byte| byte != UNUSED);
     let terms = used.map(|&byte| match byte {
         FIRST_CONSTANT.. => Term::Constant((byte - FIRST_CONSTANT) as usize),
         _ => Term::Variable(byte as usize),
     });
-    Atom::new(bytes[0] as usize, terms.collect())
+    terms.collect()
+}
+
+/// The bytes of a question: the answer record if there is one, then the atoms.
+pub fn encode_question(question: &Question) -> Vec<u8> {
+    let mut bytes = Vec::new();
+    if question.is_answered() {
+        bytes.extend(encode(ANSWER, &question.answer));
+    }
+    bytes.extend(question.atoms.iter().flat_map(encode_atom));
+    bytes
 }
 
 /// The five bytes of an atom.
-pub fn encode_atom(atom: &Atom) -> [u8; ATOM] {
+fn encode_atom(atom: &Atom) -> [u8; ATOM] {
+    encode(atom.relation as u8, &atom.terms)
+}
+
+/// A relation byte and four places, these terms in the first.
+fn encode(relation: u8, terms: &[Term]) -> [u8; ATOM] {
     let mut bytes = [UNUSED; ATOM];
-    bytes[0] = atom.relation as u8;
-    for (byte, term) in bytes[1..].iter_mut().zip(&atom.terms) {
+    bytes[0] = relation;
+    for (byte, term) in bytes[1..].iter_mut().zip(terms) {
         *byte = match term {
             Term::Variable(v) => *v as u8,
             Term::Constant(c) => FIRST_CONSTANT + *c as u8,
@@ -93,18 +125,19 @@ fn encode_rule(rule: &Rule) -> Vec<u8> {
 /// The bytes of a book.
 pub fn write(book: &Book) -> Vec<u8> {
     let rules: Vec<u8> = book.rules.iter().flat_map(encode_rule).collect();
+    let question = encode_question(&book.question);
     let rules_at = HEADER + book.relations.len();
     let question_at = rules_at + rules.len();
     let words = [
         book.relations.len(),
         book.constants,
         book.rules.len(),
-        book.question.len(),
+        book.question.atoms.len(),
         book.allowed,
         HEADER,
         rules_at,
         question_at,
-        question_at + ATOM * book.question.len(),
+        question_at + question.len(),
     ];
     let mut bytes: Vec<u8> = Vec::new();
     for word in words {
@@ -112,7 +145,7 @@ pub fn write(book: &Book) -> Vec<u8> {
     }
     bytes.extend(book.relations.iter().map(|&places| places as u8));
     bytes.extend(rules);
-    bytes.extend(book.question.iter().flat_map(encode_atom));
+    bytes.extend(question);
     bytes
 }
 
@@ -123,8 +156,11 @@ fn mark_faults(faults: &[Fault], least: &Fault, seen: &mut Seen) {
         seen.mark_if(winning, fault.why);
     }
     seen.mark_if(least.place > 255, Behaviour::BookPlaceOver255);
+    let also = |number: usize| faults.iter().any(|f| f.number == number);
     let numbers = faults.iter().any(|f| f.number != least.number);
     seen.mark_if(numbers, Behaviour::CompetingNumbers);
+    let unbound_too = least.number == 7 && also(11);
+    seen.mark_if(unbound_too, Behaviour::SevenBeforeEleven);
     let mut alike = faults.iter().filter(|f| f.number == least.number);
     let places = alike.any(|f| f.place != least.place);
     seen.mark_if(places, Behaviour::CompetingPlaces);
@@ -136,9 +172,16 @@ fn mark_limits(book: &Book, length: usize, seen: &mut Seen) {
     seen.mark_if(book.constants == 127, Behaviour::Constants127);
     seen.mark_if(book.rules.len() == 32, Behaviour::Rules32);
     seen.mark_if(book.rules.is_empty(), Behaviour::Rules0);
-    seen.mark_if(book.question.len() == 8, Behaviour::Question8);
+    let facts: Vec<&Rule> = book.rules.iter().filter(|rule| rule.is_fact()).collect();
+    let longest = facts.iter().any(|fact| fact.head.len() == 4);
+    seen.mark_if(!facts.is_empty(), Behaviour::Facts);
+    seen.mark_if(longest, Behaviour::FactOfFour);
+    seen.mark_if(facts.len() == 32, Behaviour::Facts32);
+    seen.mark_if(book.question.atoms.len() == 8, Behaviour::Question8);
     seen.mark_if(book.allowed == 1, Behaviour::Allowed1);
     seen.mark_if(book.allowed == 1000, Behaviour::Allowed1000);
-    seen.mark_if(length == 1466, Behaviour::LargestBook);
+    let answered = book.question.is_answered();
+    seen.mark_if(!answered && length == 1466, Behaviour::LargestBoolean);
+    seen.mark_if(length == 1471, Behaviour::LargestBook);
     seen.mark_if(length == 24, Behaviour::SmallestBook);
 }

@@ -1,9 +1,9 @@
-//! A bounded forward chase: applying rules to facts until the question holds, nothing new
+//! A bounded forward chase: applying rules to facts until enough is known, nothing new
 //! comes, or a bound is met. Facts are atoms: a constant is a named thing, a variable an
 //! unknown.
 
-use crate::cover::{covers, for_each_map, Map};
-use crate::term::{variables, Atom, Rule, Term};
+use crate::cover::{for_each_map, holds, some_map, Map};
+use crate::term::{variables, Atom, Question, Rule, Term};
 
 /// How far a chase goes.
 #[derive(Clone, Copy)]
@@ -32,29 +32,59 @@ pub enum Chased {
     Undecided,
 }
 
-/// Applies the rules to the facts, round by round, and asks the question after each.
-pub fn chase(rules: &[Rule], ledger: &[Atom], question: &[Atom], bounds: Bounds) -> Chased {
+/// What a chase reached.
+pub struct Reached {
+    pub facts: Vec<Atom>,
+    /// Whether nothing new comes after these facts.
+    pub whole: bool,
+}
+
+/// Applies the rules to the facts, round by round, and asks the question for this row.
+pub fn chase(
+    rules: &[Rule],
+    ledger: &[Atom],
+    question: &Question,
+    row: &[Term],
+    bounds: Bounds,
+) -> Chased {
+    let reached = reach(rules, ledger, bounds, |facts| holds(question, row, facts));
+    match (holds(question, row, &reached.facts), reached.whole) {
+        (true, _) => Chased::Holds,
+        (false, true) => Chased::Fails,
+        (false, false) => Chased::Undecided,
+    }
+}
+
+/// Applies the rules to the facts, round by round, until the facts are `enough`.
+pub fn reach(
+    rules: &[Rule],
+    ledger: &[Atom],
+    bounds: Bounds,
+    enough: impl Fn(&[Atom]) -> bool,
+) -> Reached {
     let mut facts = Facts {
         atoms: ledger.to_vec(),
         unknowns: variables(ledger).last().map_or(0, |v| v + 1),
     };
+    let mut whole = false;
     for _ in 0..bounds.rounds {
-        if covers(question, &facts.atoms) {
-            return Chased::Holds;
-        }
         let before = facts.atoms.len();
-        for rule in rules {
-            if !facts.apply_everywhere(rule, bounds) {
-                return Chased::Undecided;
-            }
+        let stopped = enough(&facts.atoms);
+        if stopped
+            || !rules
+                .iter()
+                .all(|rule| facts.apply_everywhere(rule, bounds))
+        {
+            break;
         }
         if facts.atoms.len() == before {
-            return Chased::Fails;
+            whole = true;
+            break;
         }
     }
-    match covers(question, &facts.atoms) {
-        true => Chased::Holds,
-        false => Chased::Undecided,
+    Reached {
+        facts: facts.atoms,
+        whole,
     }
 }
 
@@ -88,7 +118,7 @@ impl Facts {
     fn apply(&mut self, rule: &Rule, map: &Map) {
         let frontier = map.iter().filter(|(v, _)| rule.is_frontier(**v));
         let mut map: Map = frontier.map(|(v, t)| (*v, *t)).collect();
-        if self.holds(&rule.head, &map) {
+        if some_map(&rule.head, &self.atoms, &map) {
             return;
         }
         for v in variables(&rule.head) {
@@ -106,15 +136,5 @@ impl Facts {
                 self.atoms.push(fact);
             }
         }
-    }
-
-    /// Whether the atoms hold with these variables mapped so.
-    fn holds(&self, atoms: &[Atom], map: &Map) -> bool {
-        let mut found = false;
-        for_each_map(atoms, &self.atoms, map, &mut |_| {
-            found = true;
-            false
-        });
-        found
     }
 }

@@ -1,7 +1,7 @@
-//! Damaged books: refusals 2 to 7 at many places, alone and competing.
+//! Damaged books: refusals 2 to 7 and 11 at many places, alone and competing.
 
 use crate::book::{self, Book};
-use crate::layout::{ATOM, HEADER};
+use crate::layout::{ANSWER, ATOM, HEADER, UNUSED, VARIABLES};
 use crate::random::Random;
 
 /// Where the parts of a sound book's bytes begin.
@@ -37,7 +37,8 @@ fn parts(book: &Book) -> Parts {
         atoms.extend((0..many).map(|i| at + 2 + ATOM * i));
         at += 2 + ATOM * many;
     }
-    let question = (0..book.question.len()).map(|i| at + ATOM * i);
+    let first = at + ATOM * book.question.is_answered() as usize;
+    let question = (0..book.question.atoms.len()).map(|i| first + ATOM * i);
     atoms.extend(question);
     Parts {
         rules,
@@ -47,7 +48,7 @@ fn parts(book: &Book) -> Parts {
 }
 
 /// How many kinds of damage there are, the commoner counted more than once.
-const KINDS: usize = 16;
+const KINDS: usize = 20;
 
 /// One thing wrong, of this kind.
 fn damage(kind: usize, bytes: &mut Vec<u8>, book: &Book, parts: &Parts, random: &mut Random) {
@@ -61,6 +62,8 @@ fn damage(kind: usize, bytes: &mut Vec<u8>, book: &Book, parts: &Parts, random: 
         7 | 8 => rule_count(bytes, parts, random),
         9 | 10 => rules_end(bytes, book, parts, random),
         11 => any_byte(bytes, random),
+        12 => answer_total(bytes, random),
+        13..=15 => answer_record(bytes, book, parts, random),
         _ => atom(bytes, book, parts, random),
     }
 }
@@ -129,11 +132,13 @@ fn header_word(bytes: &mut [u8], random: &mut Random) {
     }
 }
 
-/// A question's offset so high that its total is right only when cut to 16 bits.
+/// A question's offset so high that its total, with an answer record or without, is right
+/// only when cut to 16 bits.
 fn cut_total(bytes: &mut [u8], random: &mut Random) {
     let question = 65_535 - random.below(3);
+    let records = get_word(bytes, 3) + random.below(2);
     put_word(bytes, 7, question);
-    put_word(bytes, 8, question + ATOM * get_word(bytes, 3));
+    put_word(bytes, 8, question + ATOM * records);
 }
 
 /// A relation's number of places.
@@ -155,8 +160,11 @@ fn rule_count(bytes: &mut [u8], parts: &Parts, random: &mut Random) {
     );
 }
 
-/// Another number of rules than there are, or bytes between the rules and the question,
-/// the offsets made to fit.
+/// A rule with an empty body and one head atom.
+const FACT: [u8; 2 + ATOM] = [0, 1, 0, 0, UNUSED, UNUSED, UNUSED];
+
+/// Another number of rules than there are, or bytes between the rules and the question, now
+/// and then the beginning of a rule with an empty body, the offsets made to fit.
 fn rules_end(bytes: &mut Vec<u8>, book: &Book, parts: &Parts, random: &mut Random) {
     let rules = match random.below(4) {
         0 => book.rules.len().saturating_sub(1),
@@ -167,10 +175,58 @@ fn rules_end(bytes: &mut Vec<u8>, book: &Book, parts: &Parts, random: &mut Rando
     let more = *random.one_of(&[0, 0, 1, 1, 2, 3, 7, 12, 17]);
     let at = parts.question.min(bytes.len());
     let value = *random.one_of(&[0, 1, 2, 4, 5, 255]);
-    bytes.splice(at..at, vec![value; more]);
+    let more = match random.percent(20) {
+        true => FACT[..random.between(1, FACT.len())].to_vec(),
+        false => vec![value; more],
+    };
+    bytes.splice(at..at, more.iter().copied());
     for word in [7, 8] {
-        let moved = get_word(bytes, word) + more;
+        let moved = get_word(bytes, word) + more.len();
         put_word(bytes, word, moved);
+    }
+}
+
+/// The total that announces an answer record or does not, with the book's length moved
+/// along or not; or the count of question atoms, so that one is taken for a record or a
+/// record for one.
+fn answer_total(bytes: &mut Vec<u8>, random: &mut Random) {
+    if random.percent(40) {
+        let atoms = get_word(bytes, 3) + 2 * random.below(2);
+        return put_word(bytes, 3, atoms.wrapping_sub(1));
+    }
+    let (old, by) = (get_word(bytes, 8), *random.one_of(&[1, 4, 5, 5, 5, 6, 10]));
+    let longer = random.percent(50);
+    let new = match longer {
+        true => old + by,
+        false => old.saturating_sub(by),
+    };
+    put_word(bytes, 8, new);
+    if random.percent(70) {
+        let length = bytes.len();
+        bytes.resize(length.saturating_sub(old) + new, UNUSED);
+    }
+}
+
+/// A byte of the answer record, which is put there first if there is none.
+fn answer_record(bytes: &mut Vec<u8>, book: &Book, parts: &Parts, random: &mut Random) {
+    let at = parts.question.min(bytes.len());
+    if !book.question.is_answered() {
+        bytes.splice(at..at, [ANSWER, 0, UNUSED, UNUSED, UNUSED]);
+        let total = get_word(bytes, 8) + ATOM;
+        put_word(bytes, 8, total);
+    }
+    let variable = random.below(VARIABLES) as u8;
+    let constant = (128 + book.constants).min(254) as u8;
+    let place = at + random.between(1, 4);
+    match random.below(5) {
+        0 => put(bytes, at, *random.one_of(&[0, 1, 63, 64, 128, 254])),
+        1 => put(bytes, at + 1, UNUSED),
+        2 => put(
+            bytes,
+            place,
+            *random.one_of(&[32, 127, constant, 254, UNUSED]),
+        ),
+        _ => put(bytes, place, variable),
     }
 }
 

@@ -1,8 +1,8 @@
 //! The search desk: covering on member records.
 
-use crate::book::decode_atom;
+use crate::book::decode_question;
 use crate::cover::covers as covers_question;
-use crate::layout::{ATOM, FIRST_CONSTANT, UNUSED};
+use crate::layout::{ANSWER, ATOM, FIRST_CONSTANT, UNUSED};
 use crate::term::Question;
 
 /// "0 no, 1 yes, 2 first malformed, 3 second malformed; 2 wins."
@@ -27,21 +27,24 @@ pub fn keep<'r>(first: &'r [u8], second: &'r [u8]) -> &'r [u8] {
     }
 }
 
-/// The question of a record: "1 to 11 atoms and exactly fitting length".
+/// The question of a record: "1 to 11 atoms and exactly fitting length", now "0 to 11". It
+/// has an answer record, which is not counted, exactly if its first atom's relation byte is
+/// 255. The count 0 alone is sound.
 pub fn question_of(record: &[u8]) -> Option<Question> {
     let (&count, atoms) = record.split_first()?;
-    let fits = (1..=11).contains(&count) && atoms.len() == ATOM * count as usize;
-    if !fits || !atoms.chunks(ATOM).all(is_atom) {
-        return None;
-    }
-    Some(atoms.chunks(ATOM).map(decode_atom).collect())
+    let answers = (atoms.first() == Some(&ANSWER)) as usize;
+    let fits = count <= 11 && atoms.len() == ATOM * (count as usize + answers);
+    let mut records = atoms.chunks(ATOM);
+    let sound = fits
+        && records.by_ref().take(answers).all(has_places)
+        && records.all(|atom| atom[0] < 64 && has_places(atom));
+    sound.then(|| decode_question(atoms))
 }
 
-/// "relations 0 to 63, first one to four places used with 0 to 63 or 128 to 254, the
-/// rest 255"
-fn is_atom(bytes: &[u8]) -> bool {
+/// "first one to four places used with 0 to 63 or 128 to 254, the rest 255"
+fn has_places(bytes: &[u8]) -> bool {
     let places = &bytes[1..];
     let is_used = |byte: &u8| *byte < 64 || (FIRST_CONSTANT..UNUSED).contains(byte);
     let used = places.iter().take_while(|byte| is_used(byte)).count();
-    bytes[0] < 64 && used >= 1 && places[used..].iter().all(|&byte| byte == UNUSED)
+    used >= 1 && places[used..].iter().all(|&byte| byte == UNUSED)
 }

@@ -3,7 +3,7 @@
 use crate::book::Book;
 use crate::form::form;
 use crate::seen::Seen;
-use crate::term::{Atom, Question, Rule};
+use crate::term::{Question, Rule};
 use crate::unify::for_each_choice;
 use crate::watch;
 use crate::way::Way;
@@ -80,7 +80,7 @@ impl Run<'_> {
     /// "Take up the oldest unexplored member"; "before taking up another member, apply
     /// 10"; "when none is unexplored the run is complete". A refusal gives its number.
     fn explore_all(&mut self, seen: &mut Seen) -> Result<(), usize> {
-        while let Some(oldest) = self.members.iter().position(|m| !m.explored) {
+        while let Some(oldest) = self.oldest_unexplored() {
             if self.taken == self.book.allowed {
                 return Err(10);
             }
@@ -93,26 +93,34 @@ impl Run<'_> {
         Ok(())
     }
 
+    /// Where the oldest unexplored member stands. One without atoms is a member like any
+    /// other.
+    pub fn oldest_unexplored(&self) -> Option<usize> {
+        let waits = |m: &Member| !m.explored && self.way.takes_up(&m.question);
+        self.members.iter().position(waits)
+    }
+
     /// Goes "through rules in book order, choices in theirs"; "if the member taken up is
     /// itself removed, its exploration stops at once, after the append".
     fn explore_member(&mut self, at: usize, seen: &mut Seen) -> Result<(), usize> {
         let member = &self.members[at];
         let (question, arrival) = (member.question.clone(), member.arrival);
         let (steps, mut found) = (member.steps + 1, 0);
-        for rule in &self.book.rules {
+        let (book, way) = (self.book, self.way);
+        for rule in book.rules.iter().filter(|rule| way.tries(rule)) {
             found += self.explore_rule(&question, rule, arrival, steps, seen)?;
             if self.stops(arrival) {
                 break;
             }
         }
-        watch::explored(found, self.stops(arrival), seen);
+        watch::explored(&question, found, self.stops(arrival), seen);
         Ok(())
     }
 
     /// Admits the rewritings of the question with one rule; how many there were.
     fn explore_rule(
         &mut self,
-        question: &[Atom],
+        question: &Question,
         rule: &Rule,
         arrival: usize,
         steps: usize,
@@ -140,7 +148,8 @@ impl Run<'_> {
             watch::dropped(&self.members, first, &new, seen);
             return Ok(());
         }
-        if new.len() > MOST_ATOMS {
+        watch::uncovered(&self.members, &new, seen);
+        if self.way.counted(&new) > MOST_ATOMS {
             return Err(8);
         }
         let before = self.members.len();
@@ -164,6 +173,7 @@ impl Run<'_> {
         self.members = kept;
         self.removals += removed.len();
         watch::removed(&removed, self.members.len(), seen);
+        watch::removed_by(new, removed.len(), self.members.len(), seen);
     }
 
     /// Appends a member.

@@ -3,9 +3,12 @@
 use crate::term::{Atom, Question, Term};
 
 /// "Equal atoms are dropped but for the first, then variables are numbered 0, 1, ..
-/// by first appearance."
-pub fn form(atoms: &[Atom]) -> Question {
-    number(&distinct(atoms))
+/// by first appearance." The answer record comes first, and equals no atom.
+pub fn form(question: &Question) -> Question {
+    number(&Question {
+        answer: question.answer.clone(),
+        atoms: distinct(&question.atoms),
+    })
 }
 
 /// The atoms without those that are equal to an earlier one.
@@ -19,10 +22,10 @@ pub fn distinct(atoms: &[Atom]) -> Vec<Atom> {
     kept
 }
 
-/// The atoms with their variables numbered by first appearance.
-fn number(atoms: &[Atom]) -> Vec<Atom> {
+/// The question with its variables numbered by first appearance.
+fn number(question: &Question) -> Question {
     let mut met: Vec<usize> = Vec::new();
-    let mut renamed = |term| match term {
+    question.map(|term| match term {
         Term::Constant(_) => term,
         Term::Variable(v) => {
             let known = met.iter().position(|&w| w == v);
@@ -31,6 +34,5 @@ fn number(atoms: &[Atom]) -> Vec<Atom> {
                 met.len() - 1
             }))
         }
-    };
-    atoms.iter().map(|atom| atom.map(&mut renamed)).collect()
+    })
 }

@@ -4,7 +4,7 @@ use crate::book::{self, Book};
 use crate::damage;
 use crate::random::Random;
 use crate::shapes::{Shape, SHAPES};
-use crate::term::{Atom, Rule, Term};
+use crate::term::{variables, Atom, Question, Rule, Term};
 
 /// The bytes of the next book: in three of four cases a sound one.
 pub fn next(random: &mut Random) -> Vec<u8> {
@@ -37,7 +37,8 @@ pub fn shaped(shape: &'static Shape, random: &mut Random) -> Book {
     let rules: Vec<Rule> = (0..many(making.random, shape.rules))
         .map(|_| making.rule())
         .collect();
-    let question = making.question(&rules);
+    let atoms = making.question(&rules);
+    let answer = making.answer(&atoms);
     let allowed = *making
         .random
         .one_of(&[1, 2, 3, 5, 10, 20, 60, 100, 1000, 1000]);
@@ -45,10 +46,13 @@ pub fn shaped(shape: &'static Shape, random: &mut Random) -> Book {
         relations: making.relations,
         constants,
         rules,
-        question,
+        question: Question { answer, atoms },
         allowed,
     }
 }
+
+/// In a hundred: questions with answer places.
+const ANSWERED: usize = 50;
 
 /// A book being made.
 struct Making<'r> {
@@ -59,16 +63,18 @@ struct Making<'r> {
 }
 
 impl Making<'_> {
-    /// A rule; the body sees only some of the variables, so that the head has unknowns.
+    /// A rule, now and then a fact; the body sees only some of the variables, so that the
+    /// head has unknowns.
     fn rule(&mut self) -> Rule {
         let (least, most) = self.shape.rule_variables;
         let variables = self.random.between(least, most);
         let (in_body, in_head, _) = self.shape.constants_in;
         let (of_body, of_head) = self.relations_of_rule();
-        let (body, head) = (
-            *self.random.one_of(self.shape.body),
-            *self.random.one_of(self.shape.head),
-        );
+        let body = match self.random.percent(self.shape.facts) {
+            true => 0,
+            false => *self.random.one_of(self.shape.body),
+        };
+        let head = *self.random.one_of(self.shape.head);
         let seen = self.random.between(1, variables);
         Rule {
             body: self.atoms(body, seen, in_body, &of_body),
@@ -87,8 +93,28 @@ impl Making<'_> {
         (all[border..].to_vec(), all[..border].to_vec())
     }
 
-    /// A question, mostly of relations that stand in some head; often it begins with a
-    /// whole head, so that several atoms are met at once.
+    /// The answer places of a question with these atoms, if it has any: mostly variables of
+    /// the atoms, now and then a constant.
+    fn answer(&mut self, atoms: &[Atom]) -> Vec<Term> {
+        let variables = Vec::from_iter(variables(atoms));
+        let constants = match variables.is_empty() {
+            true => 100,
+            false => 10,
+        };
+        let nothing = variables.is_empty() && self.constants == 0;
+        if nothing || !self.random.percent(ANSWERED) {
+            return Vec::new();
+        }
+        let places = *self.random.one_of(&[1, 1, 1, 2, 2, 2, 3, 4]);
+        let chosen = (0..places).map(|_| match self.term(variables.len().max(1), constants) {
+            Term::Variable(i) => Term::Variable(variables[i]),
+            constant => constant,
+        });
+        chosen.collect()
+    }
+
+    /// The atoms of a question, mostly of relations that stand in some head; often they begin
+    /// with a whole head, so that several are met at once.
     fn question(&mut self, rules: &[Rule]) -> Vec<Atom> {
         let heads: Vec<usize> = rules
             .iter()

@@ -9,6 +9,9 @@ pub const ATOM: usize = 5;
 /// The byte in an unused place.
 pub const UNUSED: u8 = 255;
 
+/// The relation byte of an answer record.
+pub const ANSWER: u8 = 255;
+
 /// The byte of the first constant.
 pub const FIRST_CONSTANT: u8 = 128;
 
@@ -47,6 +50,23 @@ impl Header {
             total: word(8),
         })
     }
+
+    /// "The total is the question's offset + 5 x N"; with an answer record N + 1.
+    pub fn total_of(&self, answered: bool) -> usize {
+        self.question_at + ATOM * (self.atoms + answered as usize)
+    }
+
+    /// Whether an answer record stands before the question's atoms: "N doesn't count it; a
+    /// total five larger announces it."
+    pub fn is_answered(&self) -> bool {
+        self.total == self.total_of(true)
+    }
+
+    /// Where the question's atoms stand.
+    pub fn question_atoms(&self) -> Vec<usize> {
+        let first = self.question_at + ATOM * self.is_answered() as usize;
+        (0..self.atoms).map(|i| first + ATOM * i).collect()
+    }
 }
 
 /// Where a rule's body atoms and head atoms stand, and where it ends.
@@ -61,10 +81,10 @@ pub struct RuleAt {
 pub enum NoRule {
     /// Its two count bytes do not both fit; so many do.
     NoCounts(usize),
-    /// A count is not 1 to 4: the body's, the head's.
+    /// The body's count is not 0 to 4, or the head's not 1 to 4: both.
     Counts(usize, usize),
-    /// Its atoms run past the question's offset.
-    Past,
+    /// Its atoms run past the question's offset; so many are the body's.
+    Past(usize),
 }
 
 /// The rule at this offset, with the question's offset as the limit.
@@ -74,14 +94,13 @@ pub fn rule_at(bytes: &[u8], at: usize, limit: usize) -> Result<RuleAt, NoRule> 
         return Err(NoRule::NoCounts(limit_of_bytes.saturating_sub(at)));
     }
     let (body, head) = (bytes[at] as usize, bytes[at + 1] as usize);
-    let sound = |count: usize| (1..=4).contains(&count);
-    if !sound(body) || !sound(head) {
+    if body > 4 || !(1..=4).contains(&head) {
         return Err(NoRule::Counts(body, head));
     }
     let head_at = at + 2 + ATOM * body;
     let end = head_at + ATOM * head;
     if end > limit {
-        return Err(NoRule::Past);
+        return Err(NoRule::Past(body));
     }
     Ok(RuleAt {
         body: (0..body).map(|i| at + 2 + ATOM * i).collect(),

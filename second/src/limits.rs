@@ -2,13 +2,15 @@
 
 use crate::book;
 use crate::damage;
+use crate::layout::UNUSED;
 use crate::source;
 use std::fmt::Write;
 
 /// A name and the bytes of each.
 pub fn books() -> Vec<(String, Vec<u8>)> {
     let mut books = Vec::new();
-    for (name, text) in sources() {
+    let texts = sources().into_iter().chain(answered_sources());
+    for (name, text) in texts.chain(known_sources()) {
         let source = source::read(&text).unwrap_or_else(|what| panic!("{name}: {what}"));
         books.push((name.to_string(), book::write(&source.book)));
     }
@@ -17,9 +19,15 @@ pub fn books() -> Vec<(String, Vec<u8>)> {
     for (i, bytes) in damage::far(&large).into_iter().enumerate() {
         books.push((format!("far {i}"), bytes));
     }
-    let swept = source::read(SWEPT).unwrap().book;
-    for (i, bytes) in damage::sweep(&swept).into_iter().enumerate() {
-        books.push((format!("swept {i}"), bytes));
+    for (name, text) in [
+        ("swept", SWEPT),
+        ("swept, answered", SWEPT_ANSWERED),
+        ("swept, known", SWEPT_KNOWN),
+    ] {
+        let swept = source::read(text).unwrap().book;
+        for (i, bytes) in damage::sweep(&swept).into_iter().enumerate() {
+            books.push((format!("{name} {i}"), bytes));
+        }
     }
     books
 }
@@ -29,7 +37,17 @@ const SWEPT: &str = "relation p 1\nrelation q 2\nconstant a b\n\
     rule p(x) -> q(x,y)\nrule p(x) p(y) -> p(x) q(y,a)\n\
     question p(x) q(x,b)\nallow 9\n";
 
-/// The sound ones, as sources.
+/// The same with an answer record, and its variable in one place alone.
+const SWEPT_ANSWERED: &str = "relation p 1\nrelation q 2\nconstant a b\n\
+    rule p(x) -> q(x,y)\nrule p(x) p(y) -> p(x) q(y,a)\n\
+    question a(x,b) : p(x) q(y,b)\nallow 9\n";
+
+/// A book with rules of empty bodies, first and last.
+const SWEPT_KNOWN: &str = "relation p 1\nrelation q 2\nconstant a b\n\
+    rule -> p(a)\nrule p(x) -> q(x,y)\nrule -> q(x,b) p(x)\n\
+    question a(x) : p(x) q(x,b)\nallow 9\n";
+
+/// The sound ones without answer places, as sources.
 fn sources() -> Vec<(&'static str, String)> {
     vec![
         ("smallest", smallest()),
@@ -71,6 +89,193 @@ fn sources() -> Vec<(&'static str, String)> {
         ("the question removed", removed()),
         ("a removed member stops", stops()),
     ]
+}
+
+/// Those with answer places.
+fn answered_sources() -> Vec<(&'static str, String)> {
+    let longest = format!("{LONG_QUESTION} b(x,x)");
+    vec![
+        ("smallest, answered", answered("x", smallest())),
+        (
+            "largest, answered",
+            answered("b7,c126,a0,a0", largest("r0")),
+        ),
+        ("32 variables, answered", answered("e7,d3", thirty_two())),
+        (
+            "11 atoms, answered, uncovered",
+            answered("a0", eleven("t", 1)),
+        ),
+        (
+            "11 atoms, answered, covered",
+            answered("a0,h0", eleven("p", 1)),
+        ),
+        (
+            "44 variables, answered",
+            answered("a0,b3,h2", eleven("p", 4)),
+        ),
+        ("390,624 choices, answered", answered("c7", many_choices())),
+        ("eight atoms and the record", answered("x", eight())),
+        ("nine atoms but for the record", answered("c0", nine())),
+        (
+            "64 members, answered",
+            answered("c1,c0", words(7, "", "", 64)),
+        ),
+        (
+            "64 members, answered, L 63",
+            answered("c0", words(7, "", "", 63)),
+        ),
+        (
+            "65 members, answered",
+            answered("c0", words(8, "", "", 1000)),
+        ),
+        (
+            "the largest union, answered",
+            answered("z,x,x", words(7, "", &longest, 1000)),
+        ),
+        (
+            "two answers become one",
+            answered("x,y", pair("s(x) -> p(x,x)")),
+        ),
+        (
+            "an answer becomes a constant",
+            answered("x,y", pair("s(x) -> p(x,c)")),
+        ),
+        (
+            "an answer and an unknown",
+            answered("y", pair("s(x) -> p(x,y)")),
+        ),
+        (
+            "an answer beside an unknown",
+            answered("x", pair("s(x) -> p(x,y)")),
+        ),
+        (
+            "numbered from the answer on",
+            answered("y,x,y,c", pair("s(x) -> p(x,y)")),
+        ),
+        ("the atoms covered, the answers not", apart()),
+        ("an answered member removed", widened()),
+    ]
+}
+
+/// Those with rules of empty bodies.
+fn known_sources() -> Vec<(&'static str, String)> {
+    vec![
+        ("known", known("-> p(y)", "p(x)", 10)),
+        ("known, L 1", known("-> p(y)", "p(x)", 1)),
+        ("known, L 2", known("-> p(y)", "p(x)", 2)),
+        ("known, twice asked", known("-> p(y)", "p(x) p(z)", 10)),
+        ("known in part", known("-> p(y)", "p(x) q(z,z)", 10)),
+        (
+            "known, but not of what is left",
+            known("-> p(y)", "p(x) q(x,z)", 10),
+        ),
+        ("known, of another thing", known("-> p(a)", "p(b)", 10)),
+        (
+            "known, an unknown for an answer",
+            known("-> p(y)", "a(x) : p(x)", 10),
+        ),
+        ("known by name", known("-> p(a)", "a(x) : p(x)", 10)),
+        ("known by name, L 1", known("-> p(a)", "a(x) : p(x)", 1)),
+        (
+            "known beside an answer",
+            known("-> p(y)", "a(b) : p(x)", 10),
+        ),
+        (
+            "known by four names",
+            known("-> q(a,b)", "a(x,y,y,x) : q(x,y)", 10),
+        ),
+        (
+            "known by name twice",
+            known("-> p(a)\nrule -> p(a) p(b)", "a(x) : p(x)", 10),
+        ),
+        (
+            "known by name, then by a rule",
+            known("-> p(a)\nrule q(a,x) -> p(a)", "a(x) : p(x)", 10),
+        ),
+        (
+            "known by name, after a rule",
+            known("q(a,x) -> p(a)\nrule -> p(a)", "a(x) : p(x)", 10),
+        ),
+        (
+            "known at the end of a chain",
+            known("p(x) -> q(x,y)\nrule -> p(y)", "q(x,y)", 10),
+        ),
+        (
+            "known, the member taken up removed",
+            known("-> p(y)\nrule q(x,y) -> p(x)", "p(x)", 10),
+        ),
+        (
+            "known, four atoms",
+            known("-> p(x) q(x,y) q(y,x) p(a)", "p(x) q(x,y)", 10),
+        ),
+        ("32 known", all_known("")),
+        ("32 known, answered", all_known("a(x) : ")),
+        ("64 members, of them 49 without atoms", known_pairs(7)),
+        ("9 among members without atoms", known_pairs(8)),
+    ]
+}
+
+/// A book of one rule, or of more with a line for each, and a question.
+fn known(rule: &str, question: &str, allowed: usize) -> String {
+    format!(
+        "relation p 1\nrelation q 2\nconstant a b\n\
+         rule {rule}\nquestion {question}\nallow {allowed}\n"
+    )
+}
+
+/// 32 rules of empty bodies; the answer, if any, is each of 32 things.
+fn all_known(answer: &str) -> String {
+    let mut text = "relation p 1\n".to_string();
+    (0..32).for_each(|i| writeln!(text, "constant c{i}").unwrap());
+    (0..32).for_each(|i| writeln!(text, "rule -> p(c{i})").unwrap());
+    writeln!(text, "question {answer}p(x)\nallow 1000").unwrap();
+    text
+}
+
+/// Pairs of so many known things: a row for each, and what else may stand in the ledger.
+fn known_pairs(things: usize) -> String {
+    let mut text = "relation p 1\n".to_string();
+    (0..things).for_each(|i| writeln!(text, "constant c{i}").unwrap());
+    (0..things).for_each(|i| writeln!(text, "rule -> p(c{i})").unwrap());
+    text += "question a(x,y) : p(x) p(y)\nallow 1000\n";
+    text
+}
+
+/// A source, its question asked with these answer places.
+fn answered(places: &str, text: String) -> String {
+    text.replacen("question ", &format!("question a({places}) : "), 1)
+}
+
+/// A question of one atom, and one rule.
+fn pair(rule: &str) -> String {
+    format!("relation p 2\nrelation s 1\nconstant c\nrule {rule}\nquestion p(x,y)\nallow 10\n")
+}
+
+/// A rewriting of eight atoms, which the answer record does not make nine.
+fn eight() -> String {
+    "relation p 2\nrelation q 1\nrelation s 2\n\
+     rule s(x,y) s(y,z) -> q(x)\n\
+     question p(x,y) p(y,z) p(z,u) p(u,w) p(w,x) p(x,x) q(x)\nallow 10\n"
+        .into()
+}
+
+/// A rewriting of nine atoms.
+fn nine() -> String {
+    eight()
+        .replace("relation q 1", "relation q 1\nconstant c0")
+        .replace("rule s(x,y)", "rule s(x,x) s(x,y)")
+}
+
+/// Two members with the same atoms and different answers.
+fn apart() -> String {
+    "relation p 1\nconstant c\nrule p(x) -> p(c)\nquestion a(x) : p(x)\nallow 10\n".into()
+}
+
+/// A rewriting that covers the question, the answer kept.
+fn widened() -> String {
+    "relation p 1\nrelation q 1\nconstant c\n\
+     rule q(x) -> q(c)\nquestion a(x) : p(x) q(c)\nallow 10\n"
+        .into()
 }
 
 /// One relation, no rules, one atom.
@@ -284,20 +489,34 @@ fn raw() -> Vec<(String, Vec<u8>)> {
     // The question's offset 65,535 and the total 4: right only when cut to 16 bits.
     let cut = with(&[(14, 255), (15, 255), (16, 4), (17, 0)]);
     books.push(("a total cut to 16 bits".into(), cut));
+    let cut = with(&[(14, 255), (15, 255), (16, 9), (17, 0)]);
+    books.push(("an answered total cut to 16 bits".into(), cut));
     for (rules, more) in [(0, 1), (0, 2), (1, 0), (1, 1), (1, 2), (1, 7), (1, 12)] {
         let name = format!("{rules} rules said, {more} bytes there");
-        books.push((name, before_question(&sound, rules, more)));
+        books.push((name, before_question(&sound, rules, &vec![1; more])));
+    }
+    // A rule of an empty body and one head atom has seven bytes.
+    let fact = [0, 1, 0, 0, UNUSED, UNUSED, UNUSED];
+    for more in 1..=fact.len() {
+        let name = format!("{more} bytes of a known thing");
+        books.push((name, before_question(&sound, 1, &fact[..more])));
+    }
+    let counts = [[0, 0], [0, 5], [5, 0], [1, 0]];
+    for counts in counts {
+        let name = format!("the counts {counts:?}");
+        let rule = [&counts, &fact[2..]].concat();
+        books.push((name, before_question(&sound, 1, &rule)));
     }
     books
 }
 
-/// A book without rules that says it has so many, with so many bytes of 1 before the
-/// question and the offsets moved along.
-fn before_question(sound: &[u8], rules: u8, more: u8) -> Vec<u8> {
+/// A book without rules that says it has so many, with these bytes before the question and
+/// the offsets moved along.
+fn before_question(sound: &[u8], rules: u8, more: &[u8]) -> Vec<u8> {
     let mut bytes = sound.to_vec();
     bytes[4] = rules;
-    bytes[14] += more;
-    bytes[16] += more;
-    bytes.splice(19..19, vec![1; more as usize]);
+    bytes[14] += more.len() as u8;
+    bytes[16] += more.len() as u8;
+    bytes.splice(19..19, more.iter().copied());
     bytes
 }

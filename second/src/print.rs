@@ -37,16 +37,37 @@ fn print_answer(answer: Answer, output: &[u8]) -> String {
     text
 }
 
-/// A question's atoms, a space between two.
+/// What is printed in the place of no atoms.
+pub const ALWAYS: &str = "always";
+
+/// A question's answer record, such as a(v0), if it has one, and its atoms; without atoms
+/// it is "printed as `always` after any answer record".
 pub fn print_question(question: &Question) -> String {
-    let atoms: Vec<String> = question.iter().map(print_atom).collect();
+    let atoms = match question.is_always() {
+        true => ALWAYS.into(),
+        false => print_atoms(&question.atoms),
+    };
+    match question.is_answered() {
+        false => atoms,
+        true => format!("a{} {atoms}", print_terms(&question.answer)),
+    }
+}
+
+/// Atoms, a space between two.
+pub fn print_atoms(atoms: &[Atom]) -> String {
+    let atoms: Vec<String> = atoms.iter().map(print_atom).collect();
     atoms.join(" ")
 }
 
 /// An atom "as relation number and terms (v variable, c constant)".
-pub fn print_atom(atom: &Atom) -> String {
-    let terms: Vec<String> = atom.terms.iter().map(print_term).collect();
-    format!("r{}({})", atom.relation, terms.join(","))
+fn print_atom(atom: &Atom) -> String {
+    format!("r{}{}", atom.relation, print_terms(&atom.terms))
+}
+
+/// Terms in parentheses, a comma between two.
+pub fn print_terms(terms: &[Term]) -> String {
+    let terms: Vec<String> = terms.iter().map(print_term).collect();
+    format!("({})", terms.join(","))
 }
 
 /// A term, such as v0 or c0.

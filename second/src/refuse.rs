@@ -1,6 +1,6 @@
-//! Refusals 2 to 7: every (number, place) that applies to a book's bytes.
+//! Refusals 2 to 7 and 11: every (number, place) that applies to a book's bytes.
 
-use crate::layout::{self, Header, NoRule, RuleAt, Rules, ATOM, HEADER};
+use crate::layout::{self, Header, NoRule, RuleAt, Rules, ANSWER, ATOM, HEADER, UNUSED, VARIABLES};
 use crate::seen::Behaviour;
 
 /// A reason to refuse a book: its number, its place, and which part of the reason holds.
@@ -22,12 +22,14 @@ fn applying(number: usize, place: usize, judged: &[(bool, Behaviour)]) -> Vec<Fa
     holding.map(|(_, why)| fault(number, place, *why)).collect()
 }
 
-/// "The smallest applicable number among 1 to 7 wins, and within it the earliest place."
+/// "The smallest applicable number among 1 to 7 wins, and within it the earliest place";
+/// 11 comes "after 7".
 pub fn least(faults: &[Fault]) -> Option<&Fault> {
     faults.iter().min_by_key(|f| (f.number, f.place))
 }
 
-/// Every (number, place) among 2 to 7 that applies, as far as there are bytes to judge.
+/// Every (number, place) among 2 to 7 and 11 that applies, as far as there are bytes to
+/// judge.
 pub fn faults(bytes: &[u8]) -> Vec<Fault> {
     let Some(header) = Header::of(bytes) else {
         let why = match bytes.len() {
@@ -42,6 +44,9 @@ pub fn faults(bytes: &[u8]) -> Vec<Fault> {
     faults.extend(relation_faults(&header, bytes));
     faults.extend(rule_faults(&header, &rules));
     faults.extend(atom_faults(&header, bytes, &rules.found));
+    faults.extend(fact_faults(&header, bytes, &rules.found));
+    faults.extend(answer_faults(&header, bytes));
+    faults.extend(unbound_faults(&header, bytes));
     faults
 }
 
@@ -60,18 +65,23 @@ fn table_faults(header: &Header) -> Vec<Fault> {
     applying(3, 0, &judged)
 }
 
-/// Refusal 4: the offsets and the total.
+/// Refusal 4: the offsets and the total, which is that with the answer record or without.
 fn offset_faults(header: &Header, length: usize) -> Vec<Fault> {
     let rules_at = HEADER + header.relations;
-    let total = header.question_at + ATOM * header.atoms;
-    let cut = total > 65_535 && header.total == total % 65_536;
+    let (without, with) = (header.total_of(false), header.total_of(true));
+    let neither = header.total != without && header.total != with;
+    let between = without < header.total && header.total < with;
+    let cut = |total: usize| neither && header.total == total % 65_536;
     let before = header.question_at < header.rules_at;
     let judged = [
         (header.relations_at != HEADER, Behaviour::RelationsOffset),
         (header.rules_at != rules_at, Behaviour::RulesOffset),
         (before, Behaviour::QuestionOffset),
-        (header.total != total, Behaviour::Total),
-        (cut, Behaviour::TotalCut),
+        (neither, Behaviour::Total),
+        (between, Behaviour::TotalBetween),
+        (header.total == with + ATOM, Behaviour::TotalTenMore),
+        (cut(without), Behaviour::TotalCut),
+        (cut(with), Behaviour::TotalCutAnswered),
         (length < header.total, Behaviour::BookShorter),
         (length > header.total, Behaviour::BookLonger),
         (length > 65_535, Behaviour::BookOver65535),
@@ -94,17 +104,21 @@ fn relation_faults(header: &Header, bytes: &[u8]) -> Vec<Fault> {
 }
 
 /// Refusal 6: "a rule's counts not 1 to 4, or the rule runs past the question's offset; or
-/// the rules end before that offset", at "the rule's first byte; or where they end".
+/// the rules end before that offset", at "the rule's first byte; or where they end"; but
+/// "body counts run 0 to 4".
 fn rule_faults(header: &Header, rules: &Rules) -> Vec<Fault> {
     let early = rules.end < header.question_at;
     let judged = match rules.broken {
         Some(NoRule::NoCounts(1)) => vec![(true, Behaviour::CountsPastOne)],
         Some(NoRule::NoCounts(_)) => vec![(true, Behaviour::CountsPastNone)],
-        Some(NoRule::Past) => vec![(true, Behaviour::AtomsPast)],
+        Some(NoRule::Past(body)) => vec![
+            (true, Behaviour::AtomsPast),
+            (body == 0, Behaviour::FactPast),
+        ],
         Some(NoRule::Counts(body, head)) => vec![
-            (body < 1, Behaviour::BodyEmpty),
             (body > 4, Behaviour::BodyLong),
             (head < 1, Behaviour::HeadEmpty),
+            (body + head < 1, Behaviour::BothEmpty),
             (head > 4, Behaviour::HeadLong),
         ],
         None => vec![
@@ -130,9 +144,84 @@ fn atom_faults(header: &Header, bytes: &[u8], rules: &[RuleAt]) -> Vec<Fault> {
             judge(at, BadRelationInHead, PlaceInHead);
         }
     }
-    for i in 0..header.atoms {
-        let at = header.question_at + ATOM * i;
+    for at in header.question_atoms() {
         judge(at, BadRelationInQuestion, PlaceInQuestion);
+    }
+    let first = bytes.get(header.question_at);
+    if !header.is_answered() && first == Some(&ANSWER) {
+        faults.push(fault(7, header.question_at, NotAnnounced));
+    }
+    faults
+}
+
+/// Those of refusal 7 that stand in a rule with an empty body, once more for the count.
+fn fact_faults(header: &Header, bytes: &[u8], rules: &[RuleAt]) -> Vec<Fault> {
+    let facts = rules.iter().filter(|rule| rule.body.is_empty());
+    let atoms = facts.flat_map(|fact| &fact.head);
+    let why = Behaviour::ByteInFact;
+    let judged = atoms.flat_map(|&at| faults_of_atom(header, bytes, at, why, why));
+    judged.filter(|fault| fault.why == why).collect()
+}
+
+/// Refusal 7 in the answer record: "relation byte 255", "used places first and at least one
+/// used", each with what a question atom may hold.
+fn answer_faults(header: &Header, bytes: &[u8]) -> Vec<Fault> {
+    let at = header.question_at;
+    let Some((relation, places)) = answer_record(header, bytes) else {
+        return Vec::new();
+    };
+    let judged = [
+        (relation != ANSWER, Behaviour::AnswerRelation),
+        (
+            (relation as usize) < header.relations,
+            Behaviour::AnswerRelationKnown,
+        ),
+    ];
+    let mut faults = applying(7, at, &judged);
+    let used = places.iter().take_while(|&&byte| byte != UNUSED).count();
+    for (i, &byte) in places.iter().enumerate() {
+        if let Some(why) = place_fault(header, byte, i < used.max(1)) {
+            faults.push(fault(7, at + 1 + i, of_answer(why)));
+        }
+    }
+    faults
+}
+
+/// The relation byte and the places of the answer record, if one is announced and there.
+fn answer_record<'b>(header: &Header, bytes: &'b [u8]) -> Option<(u8, &'b [u8])> {
+    let at = header.question_at;
+    let record = bytes.get(at..at + ATOM).filter(|_| header.is_answered());
+    record.map(|record| (record[0], &record[1..]))
+}
+
+/// A place byte that is not allowed, as one of the answer record.
+fn of_answer(why: Behaviour) -> Behaviour {
+    match why {
+        Behaviour::VariableOver31 => Behaviour::AnswerVariableOver31,
+        Behaviour::ConstantNotBelowC => Behaviour::AnswerConstantNotBelowC,
+        Behaviour::UsedPlace255 => Behaviour::AnswerNoneUsed,
+        _ => Behaviour::AnswerGap,
+    }
+}
+
+/// Refusal 11: "an answer variable in no question atom", at "its byte".
+fn unbound_faults(header: &Header, bytes: &[u8]) -> Vec<Fault> {
+    let Some((_, places)) = answer_record(header, bytes) else {
+        return Vec::new();
+    };
+    let atoms = header.question_atoms().into_iter();
+    let stands = |byte: &u8| {
+        let mut atoms = atoms.clone().filter_map(|at| bytes.get(at + 1..at + ATOM));
+        atoms.any(|places| places.contains(byte))
+    };
+    let mut faults = Vec::new();
+    for (i, byte) in places.iter().enumerate() {
+        let unbound = (*byte as usize) < VARIABLES && !stands(byte);
+        let judged = [
+            (unbound && i == 0, Behaviour::UnboundFirst),
+            (unbound && i > 0, Behaviour::UnboundLater),
+        ];
+        faults.extend(applying(11, header.question_at + 1 + i, &judged));
     }
     faults
 }

@@ -3,7 +3,7 @@
 use crate::book;
 use crate::explore::{explore_by, Outcome};
 use crate::seen::{Behaviour, Seen};
-use crate::union::{self, OUTPUT_ROOM};
+use crate::union::{self, LARGEST_BOOLEAN, OUTPUT_ROOM, SMALLEST};
 use crate::way::Way;
 
 /// "The answer is a number and a place."
@@ -34,7 +34,11 @@ pub fn run_by(bytes: &[u8], output: &mut [u8], way: Way, seen: &mut Seen) -> Ans
         Outcome::Complete { members, explored } => {
             let union = union::write(&members, explored);
             output[..union.len()].copy_from_slice(&union);
-            seen.mark_if(union.len() == OUTPUT_ROOM, Behaviour::LargestUnion);
+            let (length, answered) = (union.len(), book.question.is_answered());
+            let largest_boolean = !answered && length == LARGEST_BOOLEAN;
+            seen.mark_if(largest_boolean, Behaviour::LargestBooleanUnion);
+            seen.mark_if(length == OUTPUT_ROOM, Behaviour::LargestUnion);
+            seen.mark_if(length == SMALLEST, Behaviour::SmallestUnion);
             answer(0, union.len())
         }
     }

@@ -20,6 +20,8 @@ pub struct Shape {
     /// Whether a rule's body has only later relations than its head, so that no rule can
     /// be used for ever.
     pub layered: bool,
+    /// In a hundred: rules with an empty body, whatever `body` says.
+    pub facts: usize,
 }
 
 /// Rules with one body atom and few relations: long explorations that end.
@@ -37,6 +39,7 @@ const LINEAR: Shape = Shape {
     repeats: 4,
     heads_asked: 20,
     layered: false,
+    facts: 4,
 };
 
 /// Heads of several atoms that share unknowns.
@@ -54,6 +57,7 @@ const UNKNOWNS: Shape = Shape {
     repeats: 6,
     heads_asked: 60,
     layered: false,
+    facts: 6,
 };
 
 /// One or two relations, few variables: many atoms meet many.
@@ -71,6 +75,7 @@ const RINGS: Shape = Shape {
     repeats: 5,
     heads_asked: 40,
     layered: false,
+    facts: 5,
 };
 
 /// Constants everywhere, and bodies more general than heads: removals.
@@ -88,6 +93,7 @@ const GENERAL: Shape = Shape {
     repeats: 3,
     heads_asked: 30,
     layered: false,
+    facts: 4,
 };
 
 /// Atoms of three and four places.
@@ -105,6 +111,7 @@ const WIDE: Shape = Shape {
     repeats: 4,
     heads_asked: 50,
     layered: false,
+    facts: 6,
 };
 
 /// Bodies of several atoms: questions grow, and refusal 8 comes.
@@ -122,6 +129,7 @@ const GROWING: Shape = Shape {
     repeats: 4,
     heads_asked: 40,
     layered: false,
+    facts: 6,
 };
 
 /// Word lists: many rules with unary relations and constants in the question, so that
@@ -140,6 +148,7 @@ const WORDS: Shape = Shape {
     repeats: 2,
     heads_asked: 0,
     layered: false,
+    facts: 1,
 };
 
 /// Many relations, rules and atoms, of which few meet.
@@ -157,6 +166,7 @@ const LARGE: Shape = Shape {
     repeats: 3,
     heads_asked: 30,
     layered: false,
+    facts: 5,
 };
 
 /// Layers of relations with unknowns and constants: unions with many members, many steps
@@ -175,11 +185,31 @@ const LAYERS: Shape = Shape {
     repeats: 3,
     heads_asked: 30,
     layered: true,
+    facts: 5,
+};
+
+/// Things simply known, mostly of named things, beside a few rules: members without atoms,
+/// alone and with answers.
+const KNOWN: Shape = Shape {
+    relations: (2, 4),
+    places: &[1, 1, 2],
+    constants: (1, 3),
+    rules: (1, 6),
+    body: &[1, 1, 2],
+    head: &[1, 1, 1, 2],
+    question: &[1, 1, 1, 2, 2, 3],
+    rule_variables: (1, 3),
+    question_variables: (1, 3),
+    constants_in: (5, 60, 15),
+    repeats: 4,
+    heads_asked: 30,
+    layered: false,
+    facts: 50,
 };
 
 /// The shapes, those that are quick and telling more often.
 pub const SHAPES: &[&Shape] = &[
     &LINEAR, &LINEAR, &LINEAR, &UNKNOWNS, &UNKNOWNS, &UNKNOWNS, &UNKNOWNS, &RINGS, &RINGS,
     &GENERAL, &GENERAL, &GENERAL, &WIDE, &WIDE, &GROWING, &GROWING, &WORDS, &LARGE, &LAYERS,
-    &LAYERS, &LAYERS, &LAYERS,
+    &LAYERS, &LAYERS, &LAYERS, &KNOWN, &KNOWN, &KNOWN,
 ];

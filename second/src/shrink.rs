@@ -32,6 +32,7 @@ pub fn smaller(book: &Book) -> Vec<Book> {
     let mut books = Vec::new();
     books.extend(without_rules(book));
     books.extend(without_atoms(book));
+    books.extend(without_answer_places(book));
     books.extend(with_fewer_variables(book));
     books.extend(without_relations(book));
     books.extend(without_constants(book));
@@ -52,39 +53,49 @@ fn without_rules(book: &Book) -> Vec<Book> {
         .collect()
 }
 
-/// Without one atom of the question, a head or a body.
+/// Without one atom of the question, a head or a body. Of the question none that an answer
+/// variable needs.
 fn without_atoms(book: &Book) -> Vec<Book> {
     let mut books = Vec::new();
-    if book.question.len() > 1 {
-        let without = |i| with(book, |b| drop(b.question.remove(i)));
-        books.extend((0..book.question.len()).map(without));
+    if book.question.atoms.len() > 1 {
+        let without = |i| with(book, |b| drop(b.question.atoms.remove(i)));
+        let shorter = (0..book.question.atoms.len()).map(without);
+        books.extend(shorter.filter(|b| b.question.is_bound()));
     }
     for (r, rule) in book.rules.iter().enumerate() {
         if rule.head.len() > 1 {
             let without = |i| with(book, |b| drop(b.rules[r].head.remove(i)));
             books.extend((0..rule.head.len()).map(without));
         }
-        if rule.body.len() > 1 {
-            let without = |i| with(book, |b| drop(b.rules[r].body.remove(i)));
-            books.extend((0..rule.body.len()).map(without));
-        }
+        let without = |i| with(book, |b| drop(b.rules[r].body.remove(i)));
+        books.extend((0..rule.body.len()).map(without));
     }
     books
+}
+
+/// Without one of the answer places.
+fn without_answer_places(book: &Book) -> Vec<Book> {
+    (0..book.question.answer.len())
+        .map(|i| {
+            with(book, |b| {
+                b.question.answer.remove(i);
+            })
+        })
+        .collect()
 }
 
 /// With two variables of a rule or of the question made one.
 fn with_fewer_variables(book: &Book) -> Vec<Book> {
     let mut books = Vec::new();
-    for (v, w) in pairs(&book.question) {
-        books.push(with(book, |b| replace(&mut b.question, v, w)));
+    for (v, w) in pairs(&book.question.atoms) {
+        let question = book.question.map(|t| replaced(t, v, w));
+        books.push(with(book, |b| b.question = question));
     }
     for (r, rule) in book.rules.iter().enumerate() {
         let atoms: Vec<Atom> = rule.body.iter().chain(&rule.head).cloned().collect();
         for (v, w) in pairs(&atoms) {
-            books.push(with(book, |b| {
-                replace(&mut b.rules[r].body, v, w);
-                replace(&mut b.rules[r].head, v, w);
-            }));
+            let one = |atom: &mut Atom| *atom = atom.map(|t| replaced(t, v, w));
+            books.push(with(book, |b| each_of_rule(&mut b.rules[r], one)));
         }
     }
     books
@@ -100,26 +111,31 @@ fn pairs(atoms: &[Atom]) -> Vec<(usize, usize)> {
     pairs
 }
 
-/// Puts one variable in the place of another.
-fn replace(atoms: &mut [Atom], from: usize, to: usize) {
-    for atom in atoms {
-        *atom = atom.map(|t| match t == Term::Variable(from) {
-            true => Term::Variable(to),
-            false => t,
-        });
+/// The term, or another variable in its place if it is this one.
+fn replaced(term: Term, from: usize, to: usize) -> Term {
+    match term == Term::Variable(from) {
+        true => Term::Variable(to),
+        false => term,
     }
+}
+
+/// Every atom of a rule, to be changed.
+fn each_of_rule(rule: &mut Rule, change: impl FnMut(&mut Atom)) {
+    rule.body.iter_mut().chain(&mut rule.head).for_each(change);
 }
 
 /// Every atom of the book, to be changed.
 fn each_atom(book: &mut Book, mut change: impl FnMut(&mut Atom)) {
-    let of_rule = |rule: &mut Rule, change: &mut dyn FnMut(&mut Atom)| {
-        rule.body.iter_mut().for_each(&mut *change);
-        rule.head.iter_mut().for_each(&mut *change);
-    };
     for rule in &mut book.rules {
-        of_rule(rule, &mut change);
+        each_of_rule(rule, &mut change);
     }
-    book.question.iter_mut().for_each(&mut change);
+    book.question.atoms.iter_mut().for_each(change);
+}
+
+/// Every term of the book, to be changed.
+fn each_term(book: &mut Book, mut change: impl FnMut(&mut Term)) {
+    each_atom(book, |atom| atom.terms.iter_mut().for_each(&mut change));
+    book.question.answer.iter_mut().for_each(change);
 }
 
 /// Without one relation that stands nowhere.
@@ -140,23 +156,21 @@ fn without_relations(book: &Book) -> Vec<Book> {
 /// Without one constant that stands nowhere.
 fn without_constants(book: &Book) -> Vec<Book> {
     let mut used = vec![false; book.constants];
-    each_atom(&mut book.clone(), |atom| {
-        for term in &atom.terms {
-            if let Term::Constant(c) = term {
-                used[*c] = true;
-            }
+    each_term(&mut book.clone(), |term| {
+        if let Term::Constant(c) = term {
+            used[*c] = true;
         }
     });
-    let lower = |gone: usize, term: Term| match term {
-        Term::Constant(c) if c > gone => Term::Constant(c - 1),
-        _ => term,
+    let lower = |gone: usize, term: &mut Term| match term {
+        Term::Constant(c) if *c > gone => *c -= 1,
+        _ => (),
     };
     (0..used.len())
         .filter(|&c| !used[c])
         .map(|gone| {
             with(book, |b| {
                 b.constants -= 1;
-                each_atom(b, |atom| *atom = atom.map(|t| lower(gone, t)));
+                each_term(b, |term| lower(gone, term));
             })
         })
         .collect()

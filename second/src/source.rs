@@ -9,6 +9,11 @@
 //! allow 100                          explorations allowed
 //! ```
 //!
+//! A rule may have nothing before the arrow, as in `rule -> dark(y)`: a fact.
+//!
+//! A question with answer places has them before a colon, as in `question a(x,Maria) :
+//! parent(x,y)`. Every answer variable stands in an atom of the question.
+//!
 //! Relations and constants are numbered as they are declared, and are declared before
 //! they are used. Any other name in a place is a variable of that rule or question; one
 //! that begins with a capital must be declared, so a misspelt constant is no variable.
@@ -16,7 +21,7 @@
 
 use crate::book::Book;
 use crate::layout::VARIABLES;
-use crate::print::print_atom;
+use crate::print::{print_atoms, print_terms, ALWAYS};
 use crate::term::{Atom, Question, Rule, Term};
 use std::fmt::Write;
 
@@ -96,13 +101,13 @@ impl Reading {
         }
     }
 
-    /// `rule BODY -> HEAD`
+    /// `rule BODY -> HEAD` or `rule -> HEAD`
     fn rule(&mut self, rest: &str) -> Result<(), String> {
         let (body, head) = rest.split_once("->").ok_or("a rule has an arrow `->`")?;
         let mut names = Names::of(rest);
         let rule = Rule {
             body: self.atoms(body, &mut names)?,
-            head: self.atoms(head, &mut names)?,
+            head: some(self.atoms(head, &mut names)?)?,
         };
         within(rule.body.len(), 4, "body atoms")?;
         within(rule.head.len(), 4, "head atoms")?;
@@ -110,14 +115,32 @@ impl Reading {
         within(self.rules.len(), 32, "rules")
     }
 
-    /// `question ATOMS`
+    /// `question ATOMS` or `question a(TERMS) : ATOMS`
     fn question(&mut self, rest: &str) -> Result<(), String> {
-        let atoms = self.atoms(rest, &mut Names::of(rest))?;
+        let mut names = Names::of(rest);
+        let (answer, atoms) = match rest.split_once(':') {
+            None => (Vec::new(), rest),
+            Some((answer, atoms)) => (self.answer(answer, &mut names)?, atoms),
+        };
+        let atoms = some(self.atoms(atoms, &mut names)?)?;
         within(atoms.len(), 8, "question atoms")?;
-        match self.question.replace(atoms) {
+        let question = Question { answer, atoms };
+        if !question.is_bound() {
+            return Err("an answer variable stands in no atom".into());
+        }
+        match self.question.replace(question) {
             None => Ok(()),
             Some(_) => Err("a second question".into()),
         }
+    }
+
+    /// The answer places, `a(TERMS)`.
+    fn answer(&self, text: &str, names: &mut Names) -> Result<Vec<Term>, String> {
+        let inside = text.trim().strip_prefix("a(");
+        let inside = inside.and_then(|text| text.strip_suffix(')'));
+        let answer = self.terms(inside.ok_or("answer places are written a(..)")?, names)?;
+        within(answer.len(), 4, "answer places")?;
+        Ok(answer)
     }
 
     /// `allow NUMBER`
@@ -129,7 +152,7 @@ impl Reading {
         }
     }
 
-    /// One or more atoms, with nothing but space between them.
+    /// Atoms, or none, with nothing but space between them.
     fn atoms(&self, text: &str, names: &mut Names) -> Result<Vec<Atom>, String> {
         let mut atoms = Vec::new();
         let mut rest = text.trim();
@@ -141,19 +164,14 @@ impl Reading {
             atoms.push(self.atom(name.trim(), terms, names)?);
             rest = after.trim();
         }
-        match atoms.is_empty() {
-            true => Err("no atom".into()),
-            false => Ok(atoms),
-        }
+        Ok(atoms)
     }
 
     /// One atom.
     fn atom(&self, name: &str, terms: &str, names: &mut Names) -> Result<Atom, String> {
         let found = self.relations.iter().position(|(r, _)| r == name);
         let relation = found.ok_or(format!("`{name}` is no relation"))?;
-        let terms: Result<Vec<Term>, String> =
-            terms.split(',').map(|t| self.term(t, names)).collect();
-        let (terms, places) = (terms?, self.relations[relation].1);
+        let (terms, places) = (self.terms(terms, names)?, self.relations[relation].1);
         match terms.len() == places {
             true => Ok(Atom::new(relation, terms)),
             false => Err(format!(
@@ -161,6 +179,11 @@ impl Reading {
                 terms.len()
             )),
         }
+    }
+
+    /// One or more terms, a comma between two.
+    fn terms(&self, text: &str, names: &mut Names) -> Result<Vec<Term>, String> {
+        text.split(',').map(|term| self.term(term, names)).collect()
     }
 
     /// One term.
@@ -245,6 +268,14 @@ fn number(text: &str, least: usize, most: usize, what: &str) -> Result<usize, St
         .ok_or(format!("{what}: `{text}` is not {least} to {most}"))
 }
 
+/// The atoms, of which there must be one: only a body may be empty.
+fn some(atoms: Vec<Atom>) -> Result<Vec<Atom>, String> {
+    match atoms.is_empty() {
+        true => Err("no atom".into()),
+        false => Ok(atoms),
+    }
+}
+
 /// Whether there are not too many of a thing.
 fn within(many: usize, most: usize, what: &str) -> Result<(), String> {
     match many <= most {
@@ -263,30 +294,50 @@ pub fn show(book: &Book) -> String {
         writeln!(text, "constant c{c}").unwrap();
     }
     for rule in &book.rules {
-        writeln!(text, "rule {} -> {}", atoms(&rule.body), atoms(&rule.head)).unwrap();
+        let arrow = match rule.is_fact() {
+            true => "->",
+            false => " ->",
+        };
+        let (body, head) = (print_atoms(&rule.body), print_atoms(&rule.head));
+        writeln!(text, "rule {body}{arrow} {head}").unwrap();
     }
-    writeln!(text, "question {}", atoms(&book.question)).unwrap();
+    let (answer, atoms) = (&book.question.answer, &book.question.atoms);
+    let asked = with_answer(answer, &print_terms(answer), &print_atoms(atoms));
+    writeln!(text, "question {asked}").unwrap();
     writeln!(text, "allow {}", book.allowed).unwrap();
     text
 }
 
-/// Atoms as they stand in a source that `show` writes.
-fn atoms(atoms: &[Atom]) -> String {
-    let shown: Vec<String> = atoms.iter().map(print_atom).collect();
-    shown.join(" ")
+/// A question in the text form: its answer places, if it has any, before a colon.
+fn with_answer(answer: &[Term], places: &str, atoms: &str) -> String {
+    match answer.is_empty() {
+        true => atoms.into(),
+        false => format!("a{places} : {atoms}"),
+    }
 }
 
 impl Source {
     /// A question in the names of this source.
-    pub fn tell(&self, question: &[Atom]) -> String {
-        let told: Vec<String> = question.iter().map(|atom| self.tell_atom(atom)).collect();
-        told.join(" ")
+    pub fn tell(&self, question: &Question) -> String {
+        let atoms: Vec<String> = question.atoms.iter().map(|a| self.tell_atom(a)).collect();
+        let atoms = match question.is_always() {
+            true => ALWAYS.into(),
+            false => atoms.join(" "),
+        };
+        let places = self.tell_terms(&question.answer);
+        with_answer(&question.answer, &places, &atoms)
     }
 
     /// An atom in the names of this source.
     fn tell_atom(&self, atom: &Atom) -> String {
-        let terms: Vec<String> = atom.terms.iter().map(|term| self.tell_term(term)).collect();
-        format!("{}({})", self.relations[atom.relation], terms.join(","))
+        let name = &self.relations[atom.relation];
+        format!("{name}{}", self.tell_terms(&atom.terms))
+    }
+
+    /// Terms in the names of this source, in parentheses.
+    fn tell_terms(&self, terms: &[Term]) -> String {
+        let terms: Vec<String> = terms.iter().map(|term| self.tell_term(term)).collect();
+        format!("({})", terms.join(","))
     }
 
     /// A term in the names of this source.

@@ -9,6 +9,16 @@ pub enum Term {
     Constant(usize),
 }
 
+impl Term {
+    /// The number of a variable; none for a constant.
+    pub fn variable(&self) -> Option<usize> {
+        match self {
+            Term::Variable(v) => Some(*v),
+            Term::Constant(_) => None,
+        }
+    }
+}
+
 /// "An atom is a relation with one to four terms."
 #[derive(Clone, Debug, PartialEq, Eq, PartialOrd, Ord, Hash)]
 pub struct Atom {
@@ -16,10 +26,17 @@ pub struct Atom {
     pub terms: Vec<Term>,
 }
 
-/// "Question, body and head are conjunctions."
-pub type Question = Vec<Atom>;
+/// "Question, body and head are conjunctions"; "a question may have one to four answer
+/// places".
+#[derive(Clone, Debug, PartialEq, Eq)]
+pub struct Question {
+    /// The terms of the answer record; none if the question is Boolean.
+    pub answer: Vec<Term>,
+    pub atoms: Vec<Atom>,
+}
 
-/// A rule: its body, and the head that applying it adds.
+/// A rule: its body, and the head that applying it adds. "A fact is a rule with an empty
+/// body."
 #[derive(Clone, Debug, PartialEq, Eq)]
 pub struct Rule {
     pub body: Vec<Atom>,
@@ -38,18 +55,57 @@ impl Atom {
     }
 }
 
+impl Question {
+    /// The question whether these atoms hold.
+    pub fn boolean(atoms: Vec<Atom>) -> Question {
+        let answer = Vec::new();
+        Question { answer, atoms }
+    }
+
+    /// The question whether its atoms hold, for whatever answer.
+    pub fn unanswered(&self) -> Question {
+        Question::boolean(self.atoms.clone())
+    }
+
+    /// The question with every term replaced by what `to` gives for it, asked for the
+    /// answer record first.
+    pub fn map(&self, mut to: impl FnMut(Term) -> Term) -> Question {
+        Question {
+            answer: self.answer.iter().map(|&t| to(t)).collect(),
+            atoms: self.atoms.iter().map(|atom| atom.map(&mut to)).collect(),
+        }
+    }
+
+    /// Whether there is an answer record.
+    pub fn is_answered(&self) -> bool {
+        !self.answer.is_empty()
+    }
+
+    /// Whether it has no atoms: it "holds in every ledger, the empty one too", for every
+    /// row that its answer record allows.
+    pub fn is_always(&self) -> bool {
+        self.atoms.is_empty()
+    }
+
+    /// Whether every answer variable stands in some atom.
+    pub fn is_bound(&self) -> bool {
+        let mut asked = self.answer.iter().filter_map(Term::variable);
+        asked.all(|v| occurs(v, &self.atoms))
+    }
+}
+
 /// The variables that occur in these atoms.
 pub fn variables(atoms: &[Atom]) -> BTreeSet<usize> {
     let terms = atoms.iter().flat_map(|atom| &atom.terms);
-    terms
-        .filter_map(|term| match term {
-            Term::Variable(v) => Some(*v),
-            Term::Constant(_) => None,
-        })
-        .collect()
+    terms.filter_map(Term::variable).collect()
 }
 
 impl Rule {
+    /// Whether nothing stands before the arrow.
+    pub fn is_fact(&self) -> bool {
+        self.body.is_empty()
+    }
+
     /// "a variable in both body and head is a frontier variable"
     pub fn is_frontier(&self, variable: usize) -> bool {
         occurs(variable, &self.body) && occurs(variable, &self.head)

@@ -18,9 +18,9 @@ pub enum Apart {
 pub type Classes = Vec<Vec<Apart>>;
 
 /// A question, a rule, and a digit for each question atom: 0 leaves it, 1 to h sends
-/// it to that head atom.
+/// it to that head atom. The answer record has no digit: it is "always left".
 pub struct Choice<'a> {
-    pub question: &'a [Atom],
+    pub question: &'a Question,
     pub rule: &'a Rule,
     pub digits: Vec<usize>,
 }
@@ -62,15 +62,15 @@ pub fn digits_of(number: u64, h: usize, n: usize) -> Vec<usize> {
 /// Calls `visit` with each choice in which "relations must agree", in ascending order,
 /// until `visit` answers false. Nothing else is skipped.
 pub fn for_each_choice(
-    question: &[Atom],
+    question: &Question,
     rule: &Rule,
     visit: &mut dyn FnMut(u64, &Choice) -> bool,
 ) {
-    let (n, h) = (question.len(), rule.head.len());
+    let (n, h) = (question.atoms.len(), rule.head.len());
     let mut number = 1;
     while number < choice_count(h, n) {
         let digits = digits_of(number, h, n);
-        match first_disagreement(question, rule, &digits) {
+        match first_disagreement(&question.atoms, rule, &digits) {
             Some(at) => {
                 // No choice with these digits up to `at` agrees.
                 let below = choice_count(h, n - 1 - at);
@@ -100,25 +100,28 @@ fn first_disagreement(question: &[Atom], rule: &Rule, digits: &[usize]) -> Optio
 }
 
 impl Choice<'_> {
-    /// The question atoms that are left.
-    pub fn left(&self) -> Vec<Atom> {
-        let pairs = self.question.iter().zip(&self.digits);
+    /// What is left of the question: the answer record and the atoms not sent.
+    pub fn left(&self) -> Question {
+        let pairs = self.question.atoms.iter().zip(&self.digits);
         let left = pairs.filter(|(_, &digit)| digit == 0);
-        left.map(|(atom, _)| atom.clone()).collect()
+        Question {
+            answer: self.question.answer.clone(),
+            atoms: left.map(|(atom, _)| atom.clone()).collect(),
+        }
     }
 
     /// The question atoms that are sent, each with its head atom.
     pub fn sent(&self) -> Vec<(&Atom, &Atom)> {
-        let pairs = self.question.iter().zip(&self.digits);
+        let pairs = self.question.atoms.iter().zip(&self.digits);
         let sent = pairs.filter(|(_, &digit)| digit > 0);
         sent.map(|(atom, &digit)| (atom, &self.rule.head[digit - 1]))
             .collect()
     }
 
     /// The question atoms that are sent.
-    pub fn unified(&self) -> Vec<Atom> {
+    pub fn unified(&self) -> Question {
         let sent = self.sent().into_iter();
-        sent.map(|(atom, _)| atom.clone()).collect()
+        Question::boolean(sent.map(|(atom, _)| atom.clone()).collect())
     }
 
     /// "terms at equal places are put in one class, as coarse as this requires and no
@@ -135,13 +138,13 @@ impl Choice<'_> {
 
     /// What is wrong with the classes; nothing if the choice is valid: "no class has two
     /// constants, and a class with an existential variable has otherwise only question
-    /// variables that occur in no left atom".
+    /// variables that occur in no left atom", the answer record among them.
     pub fn faults(&self, classes: &Classes) -> Vec<Behaviour> {
         self.faults_against(classes, &self.left())
     }
 
-    /// The same, with these atoms in the place of the left ones.
-    pub fn faults_against(&self, classes: &Classes, left: &[Atom]) -> Vec<Behaviour> {
+    /// The same, with these atoms and this answer record in the place of what is left.
+    pub fn faults_against(&self, classes: &Classes, left: &Question) -> Vec<Behaviour> {
         let mut faults = Vec::new();
         for class in classes {
             let constants = class.iter().filter(|t| is_constant(t)).count();
@@ -157,12 +160,14 @@ impl Choice<'_> {
     }
 
     /// What is wrong with this term standing in a class beside an unknown, if anything.
-    fn fault_beside_unknown(&self, other: &Apart, left: &[Atom]) -> Option<Behaviour> {
+    fn fault_beside_unknown(&self, other: &Apart, left: &Question) -> Option<Behaviour> {
+        let answered = |v| left.answer.contains(&Term::Variable(v));
         match *other {
             Apart::Constant(_) => Some(Behaviour::UnknownConstant),
             Apart::OfRule(v) if self.rule.is_existential(v) => Some(Behaviour::UnknownUnknown),
             Apart::OfRule(_) => Some(Behaviour::UnknownFrontier),
-            Apart::OfQuestion(v) if occurs(v, left) => Some(Behaviour::UnknownLeft),
+            Apart::OfQuestion(v) if occurs(v, &left.atoms) => Some(Behaviour::UnknownLeft),
+            Apart::OfQuestion(v) if answered(v) => Some(Behaviour::UnknownAnswer),
             Apart::OfQuestion(_) => None,
         }
     }
@@ -177,14 +182,13 @@ impl Choice<'_> {
 
     /// "The rewriting is the left atoms, then the rule's body, each class replaced by its
     /// constant or else one variable of it", before the form is taken.
-    pub fn unformed(&self, classes: &Classes) -> Vec<Atom> {
+    pub fn unformed(&self, classes: &Classes) -> Question {
         let left = self.left();
-        let left = left
-            .iter()
-            .map(|atom| atom.map(|t| plain(replaced(classes, of_question(t)))));
+        let mut rewriting = left.map(|t| plain(replaced(classes, of_question(t))));
         let body = self.rule.body.iter();
         let body = body.map(|atom| atom.map(|t| plain(replaced(classes, of_rule(t)))));
-        left.chain(body).collect()
+        rewriting.atoms.extend(body);
+        rewriting
     }
 
     /// The rewriting in its form.

@@ -6,6 +6,7 @@ use common::{kept_text, read};
 use second::print::print;
 use second::random::Random;
 use second::seen::Seen;
+use second::term::Question;
 use second::{book, generate, source};
 use std::path::PathBuf;
 
@@ -71,6 +72,37 @@ fn variables_are_numbered_as_they_appear_but_v7_is_number_7() {
     assert_eq!(bytes[31..], [0, 0, 1, 0, 255]);
 }
 
+#[test]
+fn answer_places_stand_before_a_colon() {
+    let text = "relation p 2\nconstant A\nquestion a(y,A,y) : p(x,y) p(v0,x)\nallow 1\n";
+    let source = read(text);
+    let bytes = book::write(&source.book);
+    // The answer places come first, so y is the first variable that is not v0.
+    assert_eq!(
+        bytes[19..],
+        [255, 1, 128, 1, 255, 0, 2, 1, 255, 255, 0, 0, 2, 255, 255]
+    );
+    assert_eq!(bytes[16..18], [19 + 15, 0]);
+    let told = source.tell(&source.book.question);
+    assert_eq!(told, "a(v1,A,v1) : p(v2,v1) p(v0,v2)");
+    assert!(source::show(&source.book).contains("question a(v1,c0,v1) : r0(v2,v1) r0(v0,v2)\n"));
+    // A relation may have the name a.
+    let named = read("relation a 1\nquestion a(x) : a(x)\nallow 1\n");
+    assert_eq!(named.tell(&named.book.question), "a(v0) : a(v0)");
+}
+
+#[test]
+fn a_rule_may_have_nothing_before_the_arrow() {
+    let text = "relation p 1\nrule -> p(y)\nrule p(x) -> p(y)\nquestion p(x)\nallow 1\n";
+    let source = read(text);
+    let bytes = book::write(&source.book);
+    assert_eq!(bytes[19..26], [0, 1, 0, 0, 255, 255, 255]);
+    assert_eq!(bytes[26..28], [1, 1]);
+    assert!(source::show(&source.book).contains("rule -> r0(v0)\nrule r0(v0) -> r0(v1)\n"));
+    let known = Question::boolean(Vec::new());
+    assert_eq!(source.tell(&known), "always");
+}
+
 /// What is wrong with a source.
 fn wrong(text: &str) -> String {
     source::read(text).err().unwrap_or_default()
@@ -91,6 +123,9 @@ fn what_is_wrong_is_said_with_its_line() {
     assert_eq!(with("rule p(x) -> q(x)"), "line 3: `q` is no relation");
     assert_eq!(with("rule p(x)"), "line 3: a rule has an arrow `->`");
     assert_eq!(with("rule p(x) ->"), "line 3: no atom");
+    assert_eq!(with("rule -> p(x)"), "");
+    assert_eq!(with("rule ->"), "line 3: no atom");
+    assert_eq!(with("question"), "line 3: no atom");
     assert_eq!(
         with("rule p(x,y) -> p(x)"),
         "line 3: `p` has 1 places and not 2"
@@ -98,6 +133,17 @@ fn what_is_wrong_is_said_with_its_line() {
     assert_eq!(with("relation p 2"), "line 3: `p` is declared twice");
     assert_eq!(with("relation q 5"), "line 3: places: `5` is not 1 to 4");
     assert_eq!(with("question p(A)"), "line 4: a second question");
+    for (question, what) in [
+        ("a(y) : p(x)", "an answer variable stands in no atom"),
+        ("a(x) :", "no atom"),
+        ("(x) : p(x)", "answer places are written a(..)"),
+        ("a() : p(x)", "`` is no term"),
+        ("a(x,x,x,x,x) : p(x)", "more than 4 answer places"),
+        ("a(B) : p(x)", "constant `B` is not declared"),
+    ] {
+        let said = with(&format!("question {question}"));
+        assert_eq!(said, format!("line 3: {what}"));
+    }
     assert_eq!(with("forbid 3"), "line 3: `forbid` begins no line");
     assert_eq!(wrong("relation p 1\nallow 1\n"), "there is no question");
     assert_eq!(

@@ -5,11 +5,13 @@ mod common;
 use second::against::Against;
 use second::book;
 use second::compare::Comparison;
+use second::cover::holds;
 use second::print::{print, print_by};
 use second::random::Random;
 use second::seen::{Behaviour, Seen, BEHAVIOURS};
+use second::term::Term;
 use second::way::{Way, WRONG_WAYS};
-use second::{generate, limits, pairs, shrink};
+use second::{generate, ledger, limits, pairs, shrink};
 use std::process::Command;
 use std::time::Duration;
 
@@ -40,7 +42,7 @@ fn the_same_books_on_every_machine() {
 }
 
 /// The digest of the first thousand books of seed 1.
-const DIGEST: u64 = 0x645b_be7c_fdfa_49ae;
+const DIGEST: u64 = 0xac81_6404_7897_cd25;
 
 #[test]
 fn the_books_made_on_purpose_meet_every_behaviour() {
@@ -68,12 +70,37 @@ fn generated_books_are_of_every_kind() {
     }
     let missing = seen.missing();
     assert!(missing.len() < BEHAVIOURS.len() / 8, "{missing:?}");
-    for refusal in [
+    for behaviour in [
         Behaviour::Refusal8,
         Behaviour::Refusal9,
         Behaviour::Refusal10,
+        Behaviour::UnboundFirst,
+        Behaviour::UnboundLater,
+        Behaviour::AnswerRelation,
+        Behaviour::AnswerNoneUsed,
+        Behaviour::AnswerGap,
+        Behaviour::AnswerFour,
+        Behaviour::UnknownAnswerAlone,
+        Behaviour::AnswerConstantArises,
+        Behaviour::AnswersJoined,
+        Behaviour::KeptByAnswer,
+        Behaviour::CompleteAnswered,
+        Behaviour::FactMet,
+        Behaviour::FactMetOthersLeft,
+        Behaviour::FactMetAnswered,
+        Behaviour::UnknownAnswerOfFact,
+        Behaviour::CoveredByAlways,
+        Behaviour::CoveredAlways,
+        Behaviour::KeptFromAlways,
+        Behaviour::RemovedByAlways,
+        Behaviour::RemovedByAlwaysSome,
+        Behaviour::RemovedByAlwaysNone,
+        Behaviour::Refusal10Always,
+        Behaviour::CompleteAlways,
+        Behaviour::CompleteAlwaysAmong,
+        Behaviour::CompleteAlwaysSeveral,
     ] {
-        assert!(seen.count(refusal) > 0);
+        assert!(seen.count(behaviour) > 0, "{behaviour:?}");
     }
 }
 
@@ -119,10 +146,15 @@ fn a_program_that_is_not_there_is_told_of() {
 #[test]
 fn pairs_for_the_desk_are_of_every_kind() {
     let mut random = Random::new(9);
-    let pairs: Vec<pairs::Pair> = (0..3000).map(|_| pairs::next(&mut random)).collect();
-    let mut kinds = [0; pairs::KINDS.len()];
-    pairs.iter().for_each(|pair| kinds[pairs::kind(pair)] += 1);
-    assert!(kinds.iter().all(|&count| count > 20), "{kinds:?}");
+    let pairs: Vec<pairs::Pair> = (0..4000).map(|_| pairs::next(&mut random)).collect();
+    let mut kinds = pairs::Kinds::default();
+    pairs.iter().for_each(|pair| kinds.count(pair));
+    assert!(
+        kinds.counts.iter().all(|&count| count > 5),
+        "{}",
+        kinds.table()
+    );
+    assert_eq!(kinds.counts[..7].iter().sum::<usize>(), pairs.len());
     let records = pairs.iter().flat_map(|(a, b)| [a.clone(), b.clone()]);
     let said = batch(Some("--desk")).say(&Vec::from_iter(records));
     assert_eq!(said.answers.len(), pairs.len());
@@ -166,8 +198,38 @@ fn ledgers_agree_and_the_old_way_does_not() {
     let ledgers = env!("CARGO_BIN_EXE_ledgers");
     let (fine, text) = command(ledgers, &["--count", "1000"]);
     assert!(fine && text.contains("disagreed 0"), "{text}");
-    let (fine, text) = command(ledgers, &["--count", "1000", "--old-way"]);
-    assert!(!fine && text.contains("DISAGREED"), "{text}");
+    for way in [
+        "--old-way",
+        "--answer-not-left",
+        "--answer-not-sent",
+        "--facts-unused",
+        "--always-for-all",
+    ] {
+        let (fine, text) = command(ledgers, &["--count", "300", way]);
+        assert!(!fine && text.contains("DISAGREED"), "{way}: {text}");
+    }
+}
+
+#[test]
+fn rows_found_place_by_place_are_those_asked_one_by_one() {
+    let mut random = Random::new(24);
+    let things: Vec<Term> = (0..4).map(Term::Constant).collect();
+    let mut found = 0;
+    while found < 500 {
+        let book = generate::sound(&mut random);
+        let question = book.question.clone();
+        let (members, places) = ([question.clone()], question.answer.len());
+        for facts in ledger::ledgers(&book, &members, &mut random) {
+            let every = (0..4usize.pow(places as u32)).map(|number| {
+                let place = |i: usize| things[number / 4usize.pow(i as u32) % 4];
+                (0..places).map(place).collect::<ledger::Row>()
+            });
+            let one_by_one = every.filter(|row| holds(&question, row, &facts)).collect();
+            let by_place = ledger::rows(&question, &facts, &things);
+            found += by_place.len() * (places > 1) as usize;
+            assert_eq!(by_place, one_by_one);
+        }
+    }
 }
 
 #[test]

@@ -3,9 +3,10 @@
 mod common;
 
 use second::book::Book;
-use second::cover::{covers, equivalent};
+use second::cover::{covers, equivalent, holds};
 use second::explore::{explore, Outcome};
 use second::form::form;
+use second::ledger::{ledgers, rows, Row};
 use second::random::Random;
 use second::seen::Seen;
 use second::term::{variables, Atom, Question, Rule, Term};
@@ -30,14 +31,44 @@ fn atoms(random: &mut Random, many: usize, variables: usize) -> Vec<Atom> {
     (0..many).map(|_| atom(random, variables, 2)).collect()
 }
 
+/// A question of so many atoms, with up to two answer places.
+fn question(random: &mut Random, many: usize, variables: usize) -> Question {
+    let places = *random.one_of(&[0, 0, 1, 1, 2]);
+    let answer = (0..places).map(|_| match random.percent(20) {
+        true => Term::Constant(random.below(2)),
+        false => Term::Variable(random.below(variables)),
+    });
+    Question {
+        answer: answer.collect(),
+        atoms: atoms(random, many, variables),
+    }
+}
+
+/// The answer record as source document 002 has it: an atom of a relation of its own.
+fn ans(question: &Question) -> Option<Atom> {
+    let atom = Atom::new(99, question.answer.clone());
+    question.is_answered().then_some(atom)
+}
+
+/// The atoms of a question and its answer record among them.
+fn with_ans(question: &Question) -> Vec<Atom> {
+    let atoms = question.atoms.iter().cloned();
+    ans(question).into_iter().chain(atoms).collect()
+}
+
 /// Every term of these atoms, once.
 fn terms(atoms: &[Atom]) -> Vec<Term> {
     let set: BTreeSet<Term> = atoms.iter().flat_map(|a| a.terms.clone()).collect();
     set.into_iter().collect()
 }
 
-/// Covering once more: every map of A's variables to B's terms, one after the other.
-fn covers_by_maps(a: &[Atom], b: &[Atom]) -> bool {
+/// Covering once more: every map of A's variables to B's terms, one after the other. With
+/// an answer record on one alone there is nothing to send it to, or nothing sent to it.
+fn covers_by_maps(a: &Question, b: &Question) -> bool {
+    if a.is_answered() != b.is_answered() {
+        return false;
+    }
+    let (a, b) = (&with_ans(a), &with_ans(b));
     let (from, to) = (Vec::from_iter(variables(a)), terms(b));
     let count = (to.len() as u64).pow(from.len() as u32);
     (0..count).any(|number| {
@@ -59,15 +90,76 @@ fn covers_by_maps(a: &[Atom], b: &[Atom]) -> bool {
 #[test]
 fn covering_is_that_some_map_exists() {
     let mut random = Random::new(11);
-    let mut yes = 0;
+    let (mut yes, mut answered, mut always) = (0, 0, 0);
     for _ in 0..20_000 {
-        let (many, more) = (random.between(1, 4), random.between(1, 5));
-        let a = atoms(&mut random, many, 4);
-        let b = atoms(&mut random, more, 3);
+        let (many, more) = (random.between(0, 4), random.between(0, 5));
+        let a = question(&mut random, many, 4);
+        let b = question(&mut random, more, 3);
         assert_eq!(covers(&a, &b), covers_by_maps(&a, &b), "{a:?} {b:?}");
         yes += covers(&a, &b) as usize;
+        answered += (a.is_answered() && covers(&a, &b)) as usize;
+        always += (a.is_always() && covers(&a, &b)) as usize;
     }
-    assert!(yes > 1000);
+    assert!(yes - always > 1000 && answered > 300 && always > 300);
+}
+
+#[test]
+fn covering_sends_the_answer_record_to_the_others() {
+    let one = |t| Atom::new(0, vec![t]);
+    let (v, c) = (Term::Variable(0), Term::Constant(0));
+    let boolean = Question::boolean(vec![one(v)]);
+    let with = |answer: &[Term], t| Question {
+        answer: answer.to_vec(),
+        atoms: vec![one(t)],
+    };
+    // As conjunctions p(v0) would cover a(c0) p(c0).
+    assert!(covers(&boolean, &with(&[c], c).unanswered()));
+    assert!(!covers(&boolean, &with(&[c], c)));
+    assert!(!covers(&with(&[c], c), &boolean));
+    assert!(covers(&with(&[v], v), &with(&[c], c)));
+    assert!(!covers(&with(&[v], v), &with(&[v], c)));
+    assert!(!covers(&with(&[c], v), &with(&[v], v)));
+    assert!(!covers(&with(&[v], v), &with(&[v, v], v)));
+    assert!(!covers(&with(&[v, v], v), &with(&[v], v)));
+}
+
+#[test]
+fn without_atoms_it_covers_all_that_its_answer_record_allows() {
+    let mut random = Random::new(27);
+    let (mut yes, mut no) = (0, 0);
+    for _ in 0..5000 {
+        let many = random.between(0, 5);
+        let (a, b) = (question(&mut random, 0, 2), question(&mut random, many, 3));
+        // The answer records as atoms, and nothing else.
+        let allowed = a.is_answered() == b.is_answered()
+            && covers(
+                &Question::boolean(with_ans(&a)),
+                &Question::boolean(ans(&b).into_iter().collect()),
+            );
+        assert_eq!(covers(&a, &b), allowed, "{a:?} {b:?}");
+        assert!(b.is_always() || !covers(&b, &a));
+        yes += allowed as usize;
+        no += !allowed as usize;
+    }
+    assert!(yes > 1000 && no > 1000, "{yes} {no}");
+}
+
+#[test]
+fn without_atoms_it_holds_in_every_ledger() {
+    let c = |n: usize| Term::Constant(n);
+    let fact = Atom::new(0, vec![c(3)]);
+    let known = |answer: &[Term]| Question {
+        answer: answer.to_vec(),
+        atoms: Vec::new(),
+    };
+    for ledger in [vec![], vec![fact]] {
+        assert!(holds(&known(&[]), &[], &ledger));
+        assert!(holds(&known(&[c(0)]), &[c(0)], &ledger));
+        assert!(!holds(&known(&[c(0)]), &[c(1)], &ledger));
+        assert!(!holds(&known(&[c(0)]), &[], &ledger));
+        assert!(!holds(&known(&[]), &[c(0)], &ledger));
+        assert_eq!(rows(&known(&[c(0), c(1)]), &ledger, &[c(0), c(1)]).len(), 1);
+    }
 }
 
 #[test]
@@ -75,8 +167,8 @@ fn covering_is_reflexive_and_transitive() {
     let mut random = Random::new(12);
     for _ in 0..5000 {
         let [a, b, c] = [0; 3].map(|_| {
-            let many = random.between(1, 3);
-            atoms(&mut random, many, 3)
+            let many = random.between(0, 3);
+            question(&mut random, many, 3)
         });
         assert!(covers(&a, &a));
         assert!(!(covers(&a, &b) && covers(&b, &c)) || covers(&a, &c));
@@ -88,19 +180,31 @@ fn a_form_is_equivalent_and_its_own_form() {
     let mut random = Random::new(13);
     for _ in 0..5000 {
         let many = random.between(1, 6);
-        let a = atoms(&mut random, many, 6);
+        let a = question(&mut random, many, 6);
         assert!(equivalent(&a, &form(&a)));
         assert_eq!(form(&form(&a)), form(&a));
-        let renamed: Vec<Atom> = a
-            .iter()
-            .map(|atom| {
-                atom.map(|t| match t {
-                    Term::Variable(v) => Term::Variable(31 - v),
-                    Term::Constant(_) => t,
-                })
-            })
-            .collect();
+        let renamed = a.map(|t| match t {
+            Term::Variable(v) => Term::Variable(31 - v),
+            Term::Constant(_) => t,
+        });
         assert_eq!(form(&renamed), form(&a));
+    }
+}
+
+#[test]
+fn numbering_starts_at_the_answer_record() {
+    let mut random = Random::new(19);
+    for _ in 0..2000 {
+        let many = random.between(1, 6);
+        let a = question(&mut random, many, 6);
+        let formed = form(&a);
+        // The form is that of the conjunction with the record as its first atom.
+        assert_eq!(
+            with_ans(&formed),
+            form(&Question::boolean(with_ans(&a))).atoms
+        );
+        let first = formed.answer.iter().find_map(Term::variable);
+        assert!(first.is_none() || first == Some(0), "{formed:?}");
     }
 }
 
@@ -108,8 +212,8 @@ fn a_form_is_equivalent_and_its_own_form() {
 fn the_choices_are_all_numbers_whose_relations_agree() {
     let mut random = Random::new(14);
     for _ in 0..500 {
-        let (n, h) = (random.between(1, 4), random.between(1, 4));
-        let (question, rule) = (atoms(&mut random, n, 3), rule(&mut random, h));
+        let (n, h) = (random.between(0, 4), random.between(1, 4));
+        let (question, rule) = (question(&mut random, n, 3), rule(&mut random, h));
         let mut visited = Vec::new();
         for_each_choice(&question, &rule, &mut |number, choice| {
             assert_eq!(choice.digits, digits_of(number, h, n));
@@ -118,7 +222,7 @@ fn the_choices_are_all_numbers_whose_relations_agree() {
         });
         let agrees = |number: &u64| {
             let digits = digits_of(*number, h, n);
-            let mut pairs = digits.iter().zip(&question).filter(|(d, _)| **d > 0);
+            let mut pairs = digits.iter().zip(&question.atoms).filter(|(d, _)| **d > 0);
             pairs.all(|(d, atom)| rule.head[*d - 1].relation == atom.relation)
         };
         let all: Vec<u64> = (1..choice_count(h, n)).filter(agrees).collect();
@@ -128,7 +232,7 @@ fn the_choices_are_all_numbers_whose_relations_agree() {
 
 /// A rule with so many head atoms.
 fn rule(random: &mut Random, head: usize) -> Rule {
-    let many = random.between(1, 2);
+    let many = random.between(0, 2);
     Rule {
         body: atoms(random, many, 2),
         head: atoms(random, head, 4),
@@ -167,7 +271,7 @@ fn classes_are_as_coarse_as_required_and_no_coarser() {
     let mut random = Random::new(15);
     for _ in 0..300 {
         let (n, h) = (random.between(1, 3), random.between(1, 3));
-        let (question, rule) = (atoms(&mut random, n, 3), rule(&mut random, h));
+        let (question, rule) = (question(&mut random, n, 3), rule(&mut random, h));
         for_each_choice(&question, &rule, &mut |_, choice| {
             let classes = choice.classes().into_iter();
             let made: BTreeSet<BTreeSet<Apart>> =
@@ -239,13 +343,15 @@ fn is_unifier(rule: &Rule, part: &[Atom], head: &[Atom], rest: &[Atom], p: &Clas
     p.iter().all(sound) && sent == met
 }
 
-/// Every piece-unifier of the question with the rule.
-fn unifiers(question: &[Atom], rule: &Rule) -> Vec<Unifier> {
-    let mut found = Vec::new();
-    for bits in 1..1 << question.len() {
+/// Every piece-unifier of the question with the rule. The answer record is never sent, so
+/// it is of the rest.
+fn unifiers(question: &Question, rule: &Rule) -> Vec<Unifier> {
+    let (atoms, mut found) = (&question.atoms, Vec::new());
+    for bits in 1..1 << atoms.len() {
         for head_bits in 1..1 << rule.head.len() {
-            let (part, head) = (picked(question, bits), picked(&rule.head, head_bits));
-            let rest = picked(question, !bits);
+            let (part, head) = (picked(atoms, bits), picked(&rule.head, head_bits));
+            let mut rest = picked(atoms, !bits);
+            rest.extend(ans(question));
             let mut terms: BTreeSet<Apart> = BTreeSet::new();
             terms.extend(
                 part.iter()
@@ -258,7 +364,7 @@ fn unifiers(question: &[Atom], rule: &Rule) -> Vec<Unifier> {
             let terms = Vec::from_iter(terms);
             for partition in partitions(&terms) {
                 if is_unifier(rule, &part, &head, &rest, &partition) {
-                    let sent = (0..question.len()).map(|i| bits >> i & 1 == 1).collect();
+                    let sent = (0..atoms.len()).map(|i| bits >> i & 1 == 1).collect();
                     found.push(Unifier { sent, partition });
                 }
             }
@@ -268,7 +374,7 @@ fn unifiers(question: &[Atom], rule: &Rule) -> Vec<Unifier> {
 }
 
 /// The rewriting of Definition 13: u(body) and u(what is left of the question).
-fn rewriting_of(question: &[Atom], rule: &Rule, unifier: &Unifier) -> Question {
+fn rewriting_of(question: &Question, rule: &Rule, unifier: &Unifier) -> Question {
     let digits = unifier.sent.iter().map(|&sent| sent as usize).collect();
     let choice = Choice {
         question,
@@ -279,7 +385,7 @@ fn rewriting_of(question: &[Atom], rule: &Rule, unifier: &Unifier) -> Question {
 }
 
 /// The valid choices: which atoms are sent, the classes, and the rewriting.
-fn valid_choices(question: &[Atom], rule: &Rule) -> Vec<(Vec<bool>, Classes, Question)> {
+fn valid_choices(question: &Question, rule: &Rule) -> Vec<(Vec<bool>, Classes, Question)> {
     let mut found = Vec::new();
     for_each_choice(question, rule, &mut |_, choice| {
         let classes = choice.classes();
@@ -302,13 +408,14 @@ fn as_sets(classes: &Classes) -> BTreeSet<BTreeSet<Apart>> {
 #[test]
 fn valid_choices_are_piece_unifiers_and_cover_all_the_others() {
     let mut random = Random::new(16);
-    let (mut choices, mut published) = (0, 0);
+    let (mut choices, mut published, mut known) = (0, 0, 0);
     for _ in 0..1500 {
         let (n, h) = (random.between(1, 3), random.between(1, 2));
-        let question = form(&atoms(&mut random, n, 2));
+        let question = form(&question(&mut random, n, 2));
         let rule = rule(&mut random, h);
         let (unifiers, valid) = (unifiers(&question, &rule), valid_choices(&question, &rule));
         choices += valid.len();
+        known += valid.len() * rule.is_fact() as usize;
         published += unifiers.len();
         for (sent, classes, _) in &valid {
             let same = |u: &Unifier| u.sent == *sent && as_sets(&u.partition) == as_sets(classes);
@@ -320,7 +427,7 @@ fn valid_choices_are_piece_unifiers_and_cover_all_the_others() {
             assert!(covered, "{question:?} {rule:?}");
         }
     }
-    assert!(choices > 300 && published > choices);
+    assert!(choices > 300 && published > choices && known > 50);
 }
 
 /// Sound books with a complete run, and their members.
@@ -338,20 +445,174 @@ fn complete_runs(seed: u64, many: usize) -> Vec<(Book, Vec<Question>, usize)> {
 
 #[test]
 fn a_complete_union_is_closed_and_no_member_covers_another() {
-    for (book, members, explored) in complete_runs(17, 1500) {
+    let mut known = 0;
+    for (book, members, explored) in complete_runs(31, 1500) {
         assert!(explored <= book.allowed && (1..=64).contains(&members.len()));
         assert!(members.iter().any(|m| covers(m, &book.question)));
         for (i, member) in members.iter().enumerate() {
-            assert!(member.len() <= 8 && *member == form(member));
+            assert!(member.atoms.len() <= 8 && *member == form(member));
+            assert_eq!(member.answer.len(), book.question.answer.len());
+            // No answer variable outside the atoms: without atoms only constants to answer.
+            assert!(member.is_bound(), "{member:?}");
+            let constant = |t: &Term| t.variable().is_none();
+            assert!(!member.is_always() || member.answer.iter().all(constant));
+            known += (member.is_always() && member.is_answered()) as usize;
             let others = members.iter().enumerate().filter(|(j, _)| *j != i);
             assert!(others.clone().all(|(_, other)| !covers(other, member)));
             for rule in &book.rules {
                 for (_, _, rewriting) in valid_choices(member, rule) {
+                    assert!(rewriting.is_bound(), "{rewriting:?}");
                     assert!(members.iter().any(|m| covers(m, &rewriting)));
                 }
             }
         }
     }
+    assert!(known > 30, "{known}");
+}
+
+/// The book with a new relation of one place, which each empty body asks for: what was
+/// simply known follows from one fact.
+fn from_one_fact(book: &Book) -> (Book, Atom) {
+    let (mut book, relation) = (book.clone(), book.relations.len());
+    book.relations.push(1);
+    for rule in book.rules.iter_mut().filter(|rule| rule.is_fact()) {
+        // A variable that no head has.
+        rule.body = vec![Atom::new(relation, vec![Term::Variable(99)])];
+    }
+    let fact = Atom::new(relation, vec![Term::Constant(book.constants)]);
+    (book, fact)
+}
+
+#[test]
+fn an_empty_body_is_as_one_whose_fact_stands_in_every_ledger() {
+    let mut random = Random::new(28);
+    let (mut rows_met, mut books, mut of_empty) = (0, 0, 0);
+    for (book, members, _) in complete_runs(29, 300) {
+        let (other, fact) = from_one_fact(&book);
+        let there = match explore(&other, &mut Seen::default()) {
+            Outcome::Complete { members, .. } if other != book => members,
+            _ => continue,
+        };
+        books += 1;
+        for ledger in ledgers(&book, &members, &mut random) {
+            let more = [&ledger[..], std::slice::from_ref(&fact)].concat();
+            let things: Vec<Term> = (0..book.constants + 2).map(Term::Constant).collect();
+            let all = |members: &[Question], facts: &[Atom]| -> BTreeSet<Row> {
+                let found = members.iter().flat_map(|m| rows(m, facts, &things));
+                found.collect()
+            };
+            let found = all(&members, &ledger);
+            assert_eq!(found, all(&there, &more), "{ledger:?}");
+            rows_met += found.len();
+            of_empty += found.len() * ledger.is_empty() as usize;
+        }
+    }
+    assert!(
+        books > 50 && rows_met > 500 && of_empty > 30,
+        "{books} {rows_met} {of_empty}"
+    );
+}
+
+/// The book with its answer record as the first question atom, of a relation of its own.
+fn with_ans_atom(book: &Book) -> Book {
+    let (mut book, relation) = (book.clone(), book.relations.len());
+    let answer = std::mem::take(&mut book.question.answer);
+    book.relations.push(answer.len());
+    book.question.atoms.insert(0, Atom::new(relation, answer));
+    book
+}
+
+/// A member of such a book with its first atom as the answer record.
+fn without_ans_atom(member: &Question) -> Question {
+    Question {
+        answer: member.atoms[0].terms.clone(),
+        atoms: member.atoms[1..].to_vec(),
+    }
+}
+
+#[test]
+fn an_answer_record_is_an_atom_of_a_relation_that_no_rule_has() {
+    let mut random = Random::new(23);
+    let (mut complete, mut refused, mut counted) = (0, 0, 0);
+    while complete < 1000 {
+        let book = generate::sound(&mut random);
+        if !book.question.is_answered() {
+            continue;
+        }
+        let here = explore(&book, &mut Seen::default());
+        match (here, explore(&with_ans_atom(&book), &mut Seen::default())) {
+            // There the record counts among the eight atoms.
+            (_, Outcome::Refused { number: 8, .. }) => counted += 1,
+            (
+                Outcome::Complete { members, explored },
+                Outcome::Complete {
+                    members: there,
+                    explored: explored_there,
+                },
+            ) => {
+                let there: Vec<Question> = there.iter().map(without_ans_atom).collect();
+                assert_eq!((members, explored), (there, explored_there));
+                complete += 1;
+            }
+            (here, there) => {
+                assert_eq!(here, there);
+                refused += 1;
+            }
+        }
+    }
+    assert!(refused > 100 && counted > 20, "{refused} {counted}");
+}
+
+/// The Boolean question whether this row is an answer: the row put in for the answer places.
+fn put_in(question: &Question, row: &[Term]) -> Option<Question> {
+    let mut map = BTreeMap::new();
+    for (&from, &to) in question.answer.iter().zip(row) {
+        if *map.entry(from).or_insert(to) != to || (from.variable().is_none() && from != to) {
+            return None;
+        }
+    }
+    let put = question.map(|t| map.get(&t).copied().unwrap_or(t));
+    Some(put.unanswered())
+}
+
+#[test]
+fn a_row_is_an_answer_exactly_if_the_question_with_the_row_put_in_holds() {
+    let mut random = Random::new(26);
+    let (mut yes, mut no) = (0, 0);
+    for (book, members, _) in complete_runs(25, 600) {
+        let ledgers = ledgers(&book, &members, &mut random);
+        for ledger in ledgers
+            .iter()
+            .filter(|_| book.question.is_answered())
+            .take(4)
+        {
+            let mut things = terms(ledger);
+            things.push(Term::Constant(book.constants));
+            let found = members.iter().flat_map(|m| rows(m, ledger, &things));
+            let mut asked: Vec<Row> = found.take(3).collect();
+            let places = book.question.answer.iter();
+            asked.push(places.map(|_| *random.one_of(&things)).collect());
+            for row in asked {
+                let here = members.iter().any(|m| holds(m, &row, ledger));
+                let Some(question) = put_in(&book.question, &row) else {
+                    assert!(!here, "{row:?}");
+                    continue;
+                };
+                let boolean = Book {
+                    question,
+                    allowed: 1000,
+                    ..book.clone()
+                };
+                if let Outcome::Complete { members, .. } = explore(&boolean, &mut Seen::default()) {
+                    let there = members.iter().any(|m| holds(m, &[], ledger));
+                    assert_eq!(here, there, "{row:?} {ledger:?}");
+                    yes += here as usize;
+                    no += !here as usize;
+                }
+            }
+        }
+    }
+    assert!(yes > 300 && no > 100, "{yes} {no}");
 }
 
 #[test]

@@ -7,7 +7,7 @@ use second::print::print;
 use second::random::Random;
 use second::refuse::{faults, least};
 use second::seen::Seen;
-use second::{generate, limits, union};
+use second::{generate, limits, source, union};
 
 /// The first refusal that is met when the questions are asked in the order of their
 /// numbers, and within a number from the first byte on.
@@ -21,7 +21,8 @@ fn first_refusal(b: &[u8]) -> Option<(usize, usize)> {
         return Some((3, 0));
     }
     let (q, total) = (w(7), w(8));
-    if w(5) != 18 || w(6) != 18 + p || q < 18 + p || total != q + 5 * n || total != b.len() {
+    let fits = total == q + 5 * n || total == q + 5 * n + 5;
+    if w(5) != 18 || w(6) != 18 + p || q < 18 + p || !fits || total != b.len() {
         return Some((4, 0));
     }
     let bad = (18..18 + p).find(|&at| !(1..=4).contains(&b[at]));
@@ -32,7 +33,7 @@ fn first_refusal(b: &[u8]) -> Option<(usize, usize)> {
     let mut atoms = Vec::new();
     for _ in 0..r {
         let start = at;
-        if q - at < 2 || !(1..=4).contains(&b[at]) || !(1..=4).contains(&b[at + 1]) {
+        if q - at < 2 || b[at] > 4 || !(1..=4).contains(&b[at + 1]) {
             return Some((6, start));
         }
         let many = (b[at] + b[at + 1]) as usize;
@@ -45,8 +46,41 @@ fn first_refusal(b: &[u8]) -> Option<(usize, usize)> {
     if at != q {
         return Some((6, at));
     }
-    atoms.extend((0..n).map(|i| q + 5 * i));
-    atoms.into_iter().find_map(|at| bad_byte(b, at, p, c))
+    let announced = total > q + 5 * n;
+    let asked: Vec<usize> = (q + 5 * announced as usize..total).step_by(5).collect();
+    let in_rules = atoms.iter().find_map(|&at| bad_byte(b, at, p, c));
+    let in_answer = || bad_answer(b, q, c).filter(|_| announced);
+    let in_question = || asked.iter().find_map(|&at| bad_byte(b, at, p, c));
+    let bad = in_rules.or_else(in_answer).or_else(in_question);
+    bad.or_else(|| unbound(b, q, &asked).filter(|_| announced))
+}
+
+/// The first byte of an answer record whose variable is in none of these atoms.
+fn unbound(b: &[u8], at: usize, asked: &[usize]) -> Option<(usize, usize)> {
+    let stands = |x: u8| asked.iter().any(|a| b[a + 1..a + 5].contains(&x));
+    let mut places = at + 1..at + 5;
+    places
+        .find(|&place| b[place] < 32 && !stands(b[place]))
+        .map(|place| (11, place))
+}
+
+/// The first byte of an answer record that is not allowed.
+fn bad_answer(b: &[u8], at: usize, c: usize) -> Option<(usize, usize)> {
+    if b[at] != 255 {
+        return Some((7, at));
+    }
+    let mut ended = false;
+    for (i, x) in b[at + 1..at + 5].iter().map(|&x| x as usize).enumerate() {
+        let allowed = match x {
+            255 => i > 0,
+            _ => !ended && (x < 32 || (x >= 128 && x < 128 + c)),
+        };
+        if !allowed {
+            return Some((7, at + 1 + i));
+        }
+        ended = x == 255;
+    }
+    None
 }
 
 /// The first byte of an atom that is not allowed.
@@ -81,17 +115,66 @@ fn the_least_fault_is_the_first_that_is_met() {
 }
 
 #[test]
+fn answer_records_by_every_value_of_their_bytes() {
+    let book = "relation p 1\nconstant a b\nquestion a(x,b) : p(x) p(v3)\nallow 9\n";
+    let book = source::read(book).unwrap().book;
+    let sound = book::write(&book);
+    let at = sound.len() - 15;
+    let mut met = [0; 12];
+    for value in 0..=255 {
+        for place in 0..5 {
+            for other in [0, 1, 32, 130, 255] {
+                let mut bytes = sound.clone();
+                bytes[at + 4] = other;
+                bytes[at + place] = value;
+                let found = faults(&bytes);
+                let found = least(&found).map(|f| (f.number, f.place));
+                assert_eq!(found, first_refusal(&bytes), "{bytes:?}");
+                met[found.map_or(0, |(number, _)| number)] += 1;
+            }
+        }
+    }
+    assert!(met[0] > 0 && met[7] > 0 && met[11] > 0, "{met:?}");
+}
+
+#[test]
+fn rules_by_every_value_of_their_counts() {
+    let book = "relation p 1\nrule -> p(x)\nrule p(x) -> p(y) p(x)\nquestion p(x)\nallow 9\n";
+    let sound = book::write(&source::read(book).unwrap().book);
+    assert_eq!(sound[19..21], [0, 1]);
+    let mut met = [0; 12];
+    for body in 0..=255 {
+        for head in 0..=255 {
+            for at in [19, 26] {
+                let mut bytes = sound.clone();
+                (bytes[at], bytes[at + 1]) = (body, head);
+                let found = faults(&bytes);
+                let found = least(&found).map(|f| (f.number, f.place));
+                assert_eq!(found, first_refusal(&bytes), "{bytes:?}");
+                met[found.map_or(0, |(number, _)| number)] += 1;
+            }
+        }
+    }
+    // Sound are both as they were, and the second with an atom more before the arrow and one
+    // fewer after it, or the other way round.
+    assert_eq!((met[0], met[6] > 0), (1 + 3, true), "{met:?}");
+}
+
+#[test]
 fn books_and_unions_there_and_back() {
     let mut random = Random::new(22);
+    let mut always = 0;
     for _ in 0..2000 {
         let book = generate::sound(&mut random);
         let bytes = book::write(&book);
         assert_eq!(book::read(&bytes, &mut Seen::default()), Ok(book.clone()));
         if let Outcome::Complete { members, explored } = explore(&book, &mut Seen::default()) {
+            always += members.iter().filter(|m| m.is_always()).count();
             let written = union::write(&members, explored);
             assert!(written.len() <= union::OUTPUT_ROOM);
             assert_eq!(union::read(&written), (members, explored));
             assert!(print(&bytes).starts_with("members "));
         }
     }
+    assert!(always > 50, "{always}");
 }

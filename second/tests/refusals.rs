@@ -6,7 +6,7 @@ use common::{kept, read};
 use second::book;
 use second::layout::ATOM;
 use second::run::{run, Answer};
-use second::union::OUTPUT_ROOM;
+use second::union::{LARGEST_BOOLEAN, OUTPUT_ROOM};
 use second::way::Way;
 
 /// A book with every kind of part: 2 relations (1 and 2 places), 2 constants, 2 rules.
@@ -17,12 +17,21 @@ fn sample() -> Vec<u8> {
     book::write(&read(text).book)
 }
 
-/// Offsets in the sample.
+/// The sample asked for x, with a constant beside it.
+fn answered_sample() -> Vec<u8> {
+    let text = "relation p 1\nrelation q 2\nconstant a b\n\
+        rule p(x) -> q(x,y)\nrule p(x) p(y) -> p(x) q(y,a)\n\
+        question a(x,b) : p(x) q(x,b)\nallow 9\n";
+    book::write(&read(text).book)
+}
+
+/// Offsets in the sample, and where the question's atoms stand in the answered one.
 const RELATIONS: usize = 18;
 const RULE_1: usize = 20;
 const RULE_2: usize = 32;
 const QUESTION: usize = 54;
 const TOTAL: usize = 64;
+const ASKED: usize = QUESTION + ATOM;
 
 /// The answer for these bytes; at a refusal no output byte may change.
 fn answer(bytes: &[u8]) -> (usize, usize) {
@@ -35,9 +44,18 @@ fn answer(bytes: &[u8]) -> (usize, usize) {
 
 /// The answer for the sample with some bytes changed.
 fn changed(changes: &[(usize, u8)]) -> (usize, usize) {
-    let mut bytes = sample();
+    answer(&with(sample(), changes))
+}
+
+/// The answer for the answered sample with some bytes changed.
+fn changed_answered(changes: &[(usize, u8)]) -> (usize, usize) {
+    answer(&with(answered_sample(), changes))
+}
+
+/// A book with some bytes changed.
+fn with(mut bytes: Vec<u8>, changes: &[(usize, u8)]) -> Vec<u8> {
     changes.iter().for_each(|&(at, value)| bytes[at] = value);
-    answer(&bytes)
+    bytes
 }
 
 /// The sample with a header word changed.
@@ -75,6 +93,18 @@ fn refusal_1_wins_over_everything() {
     }
     let mut output = vec![99; OUTPUT_ROOM];
     assert_eq!(run(&sample(), &mut output).number, 0);
+}
+
+#[test]
+fn refusal_1_is_the_same_for_books_without_an_answer_record() {
+    assert_eq!((OUTPUT_ROOM, LARGEST_BOOLEAN), (8 + 64 * 46, 8 + 64 * 41));
+    for bytes in [sample(), answered_sample()] {
+        for (room, number) in [(LARGEST_BOOLEAN, 1), (OUTPUT_ROOM - 1, 1), (OUTPUT_ROOM, 0)] {
+            let mut output = vec![99; room];
+            assert_eq!(run(&bytes, &mut output).number, number, "{room}");
+            assert_eq!(output.iter().all(|&byte| byte == 99), number == 1);
+        }
+    }
 }
 
 #[test]
@@ -130,8 +160,52 @@ fn refusal_4_offsets_and_total() {
 
 #[test]
 fn refusal_4_sums_are_not_cut() {
-    // The question's offset 65,535 and two atoms: 65,545, which is 9 when cut.
+    // The question's offset 65,535 and two atoms: 65,545, which is 9 when cut; with an
+    // answer record 14.
     assert_eq!(changed(&[(14, 255), (15, 255), (16, 9), (17, 0)]), (4, 0));
+    assert_eq!(changed(&[(14, 255), (15, 255), (16, 14), (17, 0)]), (4, 0));
+}
+
+#[test]
+fn refusal_4_the_total_is_neither_with_nor_without_an_answer_record() {
+    assert_eq!(answer(&answered_sample()).0, 0);
+    let total = TOTAL + ATOM;
+    assert_eq!(answered_sample().len(), total);
+    // Each of these is also the book's length.
+    for length in [
+        TOTAL - 5,
+        TOTAL - 1,
+        TOTAL + 1,
+        TOTAL + 4,
+        TOTAL + 6,
+        TOTAL + 10,
+    ] {
+        for mut bytes in [sample(), answered_sample()] {
+            bytes.resize(length, 255);
+            bytes[16] = length as u8;
+            assert_eq!(answer(&bytes), (4, 0), "{length}");
+        }
+    }
+    // Announced and not there, there and not announced: the length is another.
+    assert_eq!(changed(&[(16, total as u8)]), (4, 0));
+    assert_eq!(changed_answered(&[(16, TOTAL as u8)]), (4, 0));
+}
+
+#[test]
+fn the_total_alone_announces_an_answer_record() {
+    // Five bytes more at the end: the first atom is taken for the record.
+    let mut bytes = sample();
+    bytes.extend([0, 0, 255, 255, 255]);
+    bytes[16] += 5;
+    assert_eq!(answer(&bytes), (7, QUESTION));
+    // One atom fewer said: the same.
+    assert_eq!(changed(&[(6, 1)]), (7, QUESTION));
+    // Not announced, the record is an atom of no relation.
+    assert_eq!(changed_answered(&[(6, 3)]), (7, QUESTION));
+    let mut bytes = answered_sample();
+    bytes.truncate(TOTAL);
+    bytes[16] -= 5;
+    assert_eq!(answer(&bytes), (7, QUESTION));
 }
 
 #[test]
@@ -146,7 +220,7 @@ fn refusal_5_places() {
 
 #[test]
 fn refusal_6_counts() {
-    for count in [0, 5, 128, 255] {
+    for count in [5, 128, 255] {
         for at in [RULE_1, RULE_1 + 1] {
             assert_eq!(changed(&[(at, count)]), (6, RULE_1));
         }
@@ -154,6 +228,64 @@ fn refusal_6_counts() {
             assert_eq!(changed(&[(at, count)]), (6, RULE_2));
         }
     }
+    for rule in [RULE_1, RULE_2] {
+        assert_eq!(changed(&[(rule + 1, 0)]), (6, rule));
+        assert_eq!(changed(&[(rule, 0), (rule + 1, 0)]), (6, rule));
+    }
+}
+
+#[test]
+fn refusal_6_no_longer_for_an_empty_body() {
+    // The first rule without its body's atom: the second one's first byte is another.
+    let mut bytes = sample();
+    bytes[RULE_1] = 0;
+    bytes.drain(RULE_1 + 2..RULE_1 + 2 + ATOM);
+    bytes[14] -= ATOM as u8;
+    bytes[16] -= ATOM as u8;
+    assert_eq!(answer(&bytes).0, 0);
+    bytes[RULE_2 - ATOM + 1] = 0;
+    assert_eq!(answer(&bytes), (6, RULE_2 - ATOM));
+    // With the atom there it is the head, and what follows is no rule.
+    assert_eq!(changed(&[(RULE_1, 0)]), (6, RULE_1 + 2 + ATOM));
+    // The second rule ends after two atoms; the other two are too many.
+    let early = RULE_2 + 2 + 2 * ATOM;
+    assert_eq!(changed(&[(RULE_2, 0)]), (6, early));
+    // All four are its head.
+    assert_eq!(changed(&[(RULE_2, 0), (RULE_2 + 1, 4)]).0, 0);
+}
+
+#[test]
+fn refusal_6_a_rule_with_an_empty_body_runs_past() {
+    let fact = [0, 1, 0, 0, 255, 255, 255];
+    assert_eq!(before_question(3, &fact).0, 0);
+    for length in 0..fact.len() {
+        assert_eq!(before_question(3, &fact[..length]), (6, QUESTION));
+    }
+    assert_eq!(
+        before_question(3, &[0, 2, 0, 0, 255, 255, 255]),
+        (6, QUESTION)
+    );
+    assert_eq!(before_question(4, &fact), (6, QUESTION + fact.len()));
+    assert_eq!(before_question(2, &fact), (6, QUESTION));
+    // Its atoms are judged as any head's.
+    assert_eq!(
+        before_question(3, &[0, 1, 2, 0, 255, 255, 255]),
+        (7, QUESTION + 2)
+    );
+    assert_eq!(
+        before_question(3, &[0, 1, 0, 32, 255, 255, 255]),
+        (7, QUESTION + 3)
+    );
+}
+
+#[test]
+fn an_empty_head_and_an_empty_question_are_refused_as_ever() {
+    assert_eq!(
+        before_question(3, &[1, 0, 0, 0, 255, 255, 255]),
+        (6, QUESTION)
+    );
+    assert_eq!(before_question(3, &[0, 0]), (6, QUESTION));
+    assert_eq!(word(3, 0), (3, 0));
 }
 
 #[test]
@@ -208,17 +340,103 @@ fn refusal_7_places() {
 }
 
 #[test]
+fn refusal_7_the_answer_records_relation_byte() {
+    for relation in [0, 1, 2, 63, 64, 128, 254] {
+        assert_eq!(changed_answered(&[(QUESTION, relation)]), (7, QUESTION));
+        let with_places = [(QUESTION, relation), (QUESTION + 1, 77)];
+        assert_eq!(changed_answered(&with_places), (7, QUESTION));
+    }
+}
+
+#[test]
+fn refusal_7_the_answer_records_places() {
+    for value in [32, 127, 130, 254] {
+        for place in [QUESTION + 1, QUESTION + 2, QUESTION + 3] {
+            assert_eq!(changed_answered(&[(place, value)]), (7, place));
+        }
+    }
+    // None used; and none used though later ones are.
+    let none = [(QUESTION + 1, 255), (QUESTION + 2, 255)];
+    assert_eq!(changed_answered(&none), (7, QUESTION + 1));
+    assert_eq!(changed_answered(&none[..1]), (7, QUESTION + 1));
+    // After an unused place the first used one, whatever it holds.
+    for value in [0, 31, 77, 128, 254] {
+        assert_eq!(
+            changed_answered(&[(QUESTION + 4, value)]),
+            (7, QUESTION + 4)
+        );
+    }
+    let two = [(QUESTION + 2, 255), (QUESTION + 3, 0), (QUESTION + 4, 0)];
+    assert_eq!(changed_answered(&two), (7, QUESTION + 3));
+    // All four used, and one.
+    let four = [(QUESTION + 3, 128), (QUESTION + 4, 0)];
+    assert_eq!(changed_answered(&four).0, 0);
+    assert_eq!(changed_answered(&[(QUESTION + 2, 255)]).0, 0);
+}
+
+#[test]
+fn refusal_7_rules_then_the_answer_record_then_the_atoms() {
+    let (rule, place, atom) = ((RULE_2 + 3, 77), (QUESTION + 2, 77), (ASKED, 9));
+    assert_eq!(changed_answered(&[rule, place, atom]), (7, RULE_2 + 3));
+    assert_eq!(changed_answered(&[place, atom]), (7, QUESTION + 2));
+    assert_eq!(changed_answered(&[atom]), (7, ASKED));
+    assert_eq!(changed_answered(&[(ASKED + 1, 32)]), (7, ASKED + 1));
+}
+
+#[test]
+fn refusal_11_an_answer_variable_in_no_question_atom() {
+    for v in [1, 2, 31] {
+        assert_eq!(changed_answered(&[(QUESTION + 1, v)]), (11, QUESTION + 1));
+        assert_eq!(changed_answered(&[(QUESTION + 2, v)]), (11, QUESTION + 2));
+        assert_eq!(changed_answered(&[(QUESTION + 3, v)]), (11, QUESTION + 3));
+    }
+    // The earliest place, also of one variable twice.
+    let two = [(QUESTION + 2, 9), (QUESTION + 3, 9), (QUESTION + 4, 8)];
+    assert_eq!(changed_answered(&two), (11, QUESTION + 2));
+    // It stands in another atom, and the first place is fine.
+    assert_eq!(changed_answered(&[(ASKED + 1, 5)]).0, 0);
+    let nowhere = [(ASKED + 1, 5), (ASKED + ATOM + 1, 5)];
+    assert_eq!(changed_answered(&nowhere), (11, QUESTION + 1));
+    // A rule's variable of that number is another.
+    assert_eq!(changed_answered(&[(QUESTION + 1, 1)]), (11, QUESTION + 1));
+    // Constants stand for themselves.
+    assert_eq!(changed_answered(&[(QUESTION + 1, 128)]).0, 0);
+}
+
+#[test]
+fn refusal_11_comes_after_7_and_before_the_run() {
+    let unbound = (QUESTION + 1, 9);
+    assert_eq!(changed_answered(&[unbound, (ASKED + 2, 0)]), (7, ASKED + 2));
+    assert_eq!(
+        changed_answered(&[unbound, (RULE_1 + 3, 77)]),
+        (7, RULE_1 + 3)
+    );
+    assert_eq!(
+        changed_answered(&[unbound, (QUESTION + 2, 77)]),
+        (7, QUESTION + 2)
+    );
+    assert_eq!(changed_answered(&[unbound, (RULE_2 + 1, 0)]), (6, RULE_2));
+    for (name, number) in [("001-transitive-which", 8), ("003-example-7-which", 9)] {
+        let bytes = book::write(&kept(name).book);
+        assert_eq!(answer(&bytes).0, number);
+        let at = bytes[14] as usize + 256 * bytes[15] as usize;
+        assert_eq!(answer(&with(bytes, &[(at + 2, 31)])), (11, at + 2));
+    }
+}
+
+#[test]
 fn the_least_number_wins_and_then_the_earliest_place() {
     let bad_place = (RULE_1 + 3, 200);
     assert_eq!(changed(&[bad_place]), (7, RULE_1 + 3));
-    assert_eq!(changed(&[bad_place, (RULE_2, 0)]), (6, RULE_2));
-    assert_eq!(changed(&[bad_place, (RULE_2, 0), (19, 0)]), (5, 19));
-    assert_eq!(changed(&[bad_place, (RULE_2, 0), (19, 0), (10, 0)]), (4, 0));
+    let no_head = (RULE_2 + 1, 0);
+    assert_eq!(changed(&[bad_place, no_head]), (6, RULE_2));
+    assert_eq!(changed(&[bad_place, no_head, (19, 0)]), (5, 19));
+    assert_eq!(changed(&[bad_place, no_head, (19, 0), (10, 0)]), (4, 0));
     assert_eq!(
-        changed(&[bad_place, (RULE_2, 0), (19, 0), (10, 0), (8, 0)]),
+        changed(&[bad_place, no_head, (19, 0), (10, 0), (8, 0)]),
         (3, 0)
     );
-    assert_eq!(changed(&[(RULE_1, 0), (RULE_2, 0)]), (6, RULE_1));
+    assert_eq!(changed(&[(RULE_1 + 1, 0), no_head]), (6, RULE_1));
 }
 
 #[test]
@@ -250,6 +468,16 @@ fn covering_is_tested_before_refusal_8() {
 }
 
 #[test]
+fn the_answer_record_is_no_atom_of_the_eight() {
+    let books = second::limits::books();
+    let bytes = |name: &str| &books.iter().find(|(n, _)| n == name).unwrap().1;
+    assert_eq!(answer(bytes("eight atoms and the record")).0, 0);
+    assert_eq!(answer(bytes("nine atoms but for the record")), (8, 1));
+    assert_eq!(answer(bytes("11 atoms, answered, covered")).0, 0);
+    assert_eq!(answer(bytes("11 atoms, answered, uncovered")), (8, 1));
+}
+
+#[test]
 fn as_many_explored_as_can_be_allowed() {
     let books = second::limits::books();
     let bytes = |name: &str| &books.iter().find(|(n, _)| n == name).unwrap().1;
@@ -257,7 +485,11 @@ fn as_many_explored_as_can_be_allowed() {
     assert_eq!(run(bytes("1,000 explored"), &mut output).number, 0);
     assert_eq!(output[..4], [50, 0, 232, 3]);
     assert_eq!(answer(bytes("1,000 wanted, L 999")), (10, 999));
-    assert_eq!(answer(bytes("the largest union")), (0, OUTPUT_ROOM));
+    assert_eq!(answer(bytes("the largest union")), (0, LARGEST_BOOLEAN));
+    assert_eq!(
+        answer(bytes("the largest union, answered")),
+        (0, OUTPUT_ROOM)
+    );
 }
 
 #[test]
@@ -278,4 +510,18 @@ fn a_complete_answer_writes_the_union_and_no_more() {
     ];
     assert_eq!(output[..25], expected);
     assert!(output[25..].iter().all(|&byte| byte == 99));
+}
+
+#[test]
+fn a_member_carries_its_answer_record_after_the_count_byte() {
+    let mut output = vec![99; OUTPUT_ROOM + 3];
+    let book = book::write(&kept("printed-which-actor").book);
+    let Answer { number, place } = run(&book, &mut output);
+    assert_eq!((number, place), (0, 8 + 16 + 11));
+    let expected = [
+        2, 0, 2, 0, 8, 0, 35, 0, 2, 255, 0, 255, 255, 255, 1, 1, 255, 255, 255, 2, 0, 1, 255, 255,
+        1, 255, 0, 255, 255, 255, 0, 0, 255, 255, 255,
+    ];
+    assert_eq!(output[..35], expected);
+    assert!(output[35..].iter().all(|&byte| byte == 99));
 }

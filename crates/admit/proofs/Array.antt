@@ -11,15 +11,16 @@ use lib.Seq.{drop-at, take-at, length-take-le}
 use Rattle.covering.specs.Lists.{_∈_}
 use Rattle.covering.specs.Term.{Question}
 use Rattle.covering.specs.Search.{covers}
-use Rattle.covering.specs.Record.{desk, Fits, SoundRecord}
+use Rattle.covering.specs.Record.{stored, Fits, SoundRecord}
 use Rattle.covering.proofs.Lists.{keep-few, keep-append, keep-out}
 use Rattle.admit.specs.declared.Extent.{Extent}
 use Rattle.admit.specs.declared.Moved.{Moved}
 use Rattle.exploration.specs.Run.{State, remaining}
-use Rattle.exploration.specs.Union.{membersBytes, membersFrom, memberEnd, firstAt, outputSize}
+use Rattle.exploration.specs.Union.{firstAt, outputSize}
+use Rattle.exploration.specs.Held.{heldBytes, heldFrom, heldEnd}
 use Rattle.admit.specs.WorkingArray.{Working, rest, HoldsState, stateIn, Remain}
-use Rattle.exploration.specs.Standing.{Standing}
-use Rattle.exploration.proofs.UnionBytes.{total-is, total-most, members-append}
+use Rattle.exploration.specs.Held.{Standing}
+use Rattle.exploration.proofs.HeldBytes.{held-total, held-most, held-append}
 use Rattle.admit.proofs.Stand.{held-stands, held-members}
 use Rattle.exploration.proofs.Members.{members-count, ending, ending-none, ending-next, members-split}
 use Rattle.exploration.proofs.Members.{later, end-same, members-same}
@@ -36,8 +37,8 @@ module _ (W : List ℕ) where
       none-passed : (n : ℕ) → 0 + n ≡ n
       none-passed n = omega arith
   standing-split i (suc k) n s =
-      let t : SoundRecord desk (drop i W) × Standing W (memberEnd W i) (k + n) = subst (Standing W i) (one-passed k n) s in
-      let r = standing-split (memberEnd W i) k n (t .1) in
+      let t : SoundRecord stored (drop i W) × Standing W (heldEnd W i) (k + n) = subst (Standing W i) (one-passed k n) s in
+      let r = standing-split (heldEnd W i) k n (t .1) in
       ((t .0, r .0), subst (λ (j : ℕ). Standing W j n) (ending-next W i k) (r .1))
     where
       one-passed : (k n : ℕ) → suc k + n ≡ suc (k + n)
@@ -47,20 +48,20 @@ module _ (W : List ℕ) where
   unfolding Standing
   standing-same X i zero e s = tt
   standing-same X i (suc n) e s = (
-    subst (SoundRecord desk) (sym e) (s .0),
+    subst (SoundRecord stored) (sym e) (s .0),
     subst (λ (j : ℕ). Standing X j n) (sym (end-same W X i e))
-        (standing-same X (memberEnd W i) n (later W X i e) (s .1)),
+        (standing-same X (heldEnd W i) n (later W X i e) (s .1)),
   )
 
 -- an array that holds a state
 module _ {W : List ℕ} {len count front : ℕ} {s : State} (h : HoldsState W len count front s)
-    (fits : (M : Question) → M ∈ s .members → Fits desk M)
+    (fits : (M : Question) → M ∈ s .members → Fits stored M)
   where
     pub state-held : stateIn W (record { len = len; count = count; front = front }) ≡ s
     state-held =
         ap₂ (λ (U : List Question) (k : ℕ). record { members = U; explored = k }) (held-members W h fits) (h .explored)
 
-    pub held-working : ((M : Question) → M ∈ s .members → length M ≤ 8) → count ≤ 64 → front ≤ count
+    pub held-working : ((M : Question) → M ∈ s .members → length M ≤ 9) → count ≤ 64 → front ≤ count
         → Working W (record { len = len; count = count; front = front })
     held-working short few ahead =
         record {
@@ -76,11 +77,11 @@ module _ {W : List ℕ} {e : Extent} (w : Working W e) where
   pub stands-all : Standing W firstAt (e .count)
   stands-all = held-stands W (w .held) (w .fits)
 
-  -- "at most 8 + 64 x 41 = 2,632 bytes"
+  -- 64 members of nine atoms are 2,952 bytes
   pub len-most : e .len ≤ outputSize
   len-most =
       let c = members-count W firstAt (e .count) in
-      let t = total-most (membersFrom W firstAt (e .count)) (omega (arith, c, w .few)) (w .short) in
+      let t = held-most (heldFrom W firstAt (e .count)) (omega (arith, c, w .few)) (w .short) in
       omega (arith, w .held .ends)
 
   whole : e .count ≡ e .front + (e .count - e .front)
@@ -92,9 +93,9 @@ module _ {W : List ℕ} {e : Extent} (w : Working W e) where
   pub parts-stand : Standing W firstAt (e .front) × Standing W (ending W firstAt (e .front)) (e .count - e .front)
   parts-stand = standing-split W firstAt (e .front) others (subst (Standing W firstAt) whole stands-all)
 
-  parts-are : membersFrom W firstAt (e .count)
-      ≡ membersFrom W firstAt (e .front) ++ membersFrom W (ending W firstAt (e .front)) others
-  parts-are = ap (membersFrom W firstAt) whole ∙ members-split W firstAt (e .front) others
+  parts-are : heldFrom W firstAt (e .count)
+      ≡ heldFrom W firstAt (e .front) ++ heldFrom W (ending W firstAt (e .front)) others
+  parts-are = ap (heldFrom W firstAt) whole ∙ members-split W firstAt (e .front) others
 
   -- the others stand where they stood when the explored ones are through
   pub others-stand : (P : Question) {X : List ℕ} {a : Moved} → Remain W firstAt firstAt (e .front) P X a
@@ -108,19 +109,19 @@ module _ {W : List ℕ} {e : Extent} (w : Working W e) where
       (l : Remain X (a .from) (a .to) (e .count - e .front) P Y b)
     where
       abbrev U : List Question
-      U = membersFrom W firstAt (e .count)
+      U = heldFrom W firstAt (e .count)
 
       abbrev explored : List Question
-      explored = membersFrom W firstAt (e .front)
+      explored = heldFrom W firstAt (e .front)
 
       abbrev unexplored : List Question
-      unexplored = membersFrom W (ending W firstAt (e .front)) others
+      unexplored = heldFrom W (ending W firstAt (e .front)) others
 
       there : drop (a .from) X ≡ drop (a .from) W
       there = k .after
 
-      second : membersFrom X (a .from) others ≡ unexplored
-      second = members-same W X (a .from) others there ∙ ap (λ (i : ℕ). membersFrom W i others) (k .passed)
+      second : heldFrom X (a .from) others ≡ unexplored
+      second = members-same W X (a .from) others there ∙ ap (λ (i : ℕ). heldFrom W i others) (k .passed)
 
       kept : State
       kept =
@@ -145,22 +146,22 @@ module _ {W : List ℕ} {e : Extent} (w : Working W e) where
       in-all M m =
           keep-out (λ N. not (covers P N)) U (subst (λ (s : State). M ∈ s .members) kept-is m) .0
 
-      bytes : take (b .to) Y ≡ take firstAt W ++ membersBytes (kept .members)
+      bytes : take (b .to) Y ≡ take firstAt W ++ heldBytes (kept .members)
       unfolding kept
       bytes =
           l .bytes
-          ∙ ap₂ _++_ (k .bytes) (ap (λ (A : List Question). membersBytes (remaining covers P A)) second)
-          ∙ append-assoc (take firstAt W) (membersBytes (remaining covers P explored))
-          (membersBytes (remaining covers P unexplored))
+          ∙ ap₂ _++_ (k .bytes) (ap (λ (A : List Question). heldBytes (remaining covers P A)) second)
+          ∙ append-assoc (take firstAt W) (heldBytes (remaining covers P explored))
+          (heldBytes (remaining covers P unexplored))
           ∙ ap (λ (r : List ℕ). take firstAt W ++ r)
-          (sym (members-append (remaining covers P explored) (remaining covers P unexplored)))
+          (sym (held-append (remaining covers P explored) (remaining covers P unexplored)))
 
-      lengths : length (membersBytes (kept .members))
-          ≡ length (membersBytes (remaining covers P explored)) + length (membersBytes (remaining covers P unexplored))
+      lengths : length (heldBytes (kept .members))
+          ≡ length (heldBytes (remaining covers P explored)) + length (heldBytes (remaining covers P unexplored))
       unfolding kept
       lengths =
-          ap length (members-append (remaining covers P explored) (remaining covers P unexplored))
-          ∙ length-append (membersBytes (remaining covers P explored)) (membersBytes (remaining covers P unexplored))
+          ap length (held-append (remaining covers P explored) (remaining covers P unexplored))
+          ∙ length-append (heldBytes (remaining covers P explored)) (heldBytes (remaining covers P unexplored))
 
       removed : HoldsState Y (b .to) (a .kept + b .kept) (a .kept) kept
       unfolding kept
@@ -170,16 +171,16 @@ module _ {W : List ℕ} {e : Extent} (w : Working W e) where
             bytes =
                 ap (drop firstAt) (sym (take-append-drop (b .to) Y))
                 ∙ ap (λ (r : List ℕ). drop firstAt (r ++ drop (b .to) Y)) bytes
-                ∙ ap (drop firstAt) (append-assoc (take firstAt W) (membersBytes (kept .members)) (drop (b .to) Y))
-                ∙ drop-at (take firstAt W) (membersBytes (kept .members) ++ drop (b .to) Y) firstAt
+                ∙ ap (drop firstAt) (append-assoc (take firstAt W) (heldBytes (kept .members)) (drop (b .to) Y))
+                ∙ drop-at (take firstAt W) (heldBytes (kept .members) ++ drop (b .to) Y) firstAt
                 (length-take-le firstAt W (omega (arith, w .held .size)));
             ends =
                 omega (
                   arith,
                   l .ends,
                   k .ends,
-                  ap (λ (A : List Question). length (membersBytes (remaining covers P A))) second,
-                  total-is (kept .members),
+                  ap (λ (A : List Question). length (heldBytes (remaining covers P A))) second,
+                  held-total (kept .members),
                   lengths,
                 );
             members =

@@ -11,91 +11,92 @@ use lib.ListN.{length, take, drop, length-append}
 use Rattle.covering.specs.Lists.{_∈_}
 use Rattle.covering.specs.Term.{Question}
 use Rattle.covering.specs.Search.{covers}
-use Rattle.covering.specs.Record.{desk, recordBytes, Fits}
+use Rattle.covering.specs.Record.{stored, recordBytes, Fits}
 use Rattle.covering.proofs.Tests.{true→T, false→T}
 use Rattle.admit.specs.declared.Extent.{Extent}
 use Rattle.admit.specs.declared.Fate.the-variants.{Dropped, Appended, Refused}
-use Rattle.exploration.specs.Run.{State, limits, too-long, no-room, covered, appended, admitted, remaining}
+use Rattle.exploration.specs.Run.{State, limitsFor, too-long, no-room, covered, appended, admitted, remaining}
 use Rattle.exploration.specs.Steps.{New}
-use Rattle.exploration.specs.Union.{membersBytes, membersFrom, firstAt, outputSize}
+use Rattle.exploration.specs.Union.{firstAt, outputSize}
+use Rattle.exploration.specs.Held.{heldBytes, heldFrom}
 use Rattle.admit.specs.WorkingArray.{Working, beforeCovering, rest, FateIs, HoldsState, stateIn}
 use Rattle.exploration.proofs.Admits.{was-covered, was-long, was-full, was-admitted, admit-is}
 use Rattle.exploration.proofs.Members.{members-count}
 use Rattle.admit.proofs.Array.{state-held, held-working, len-most}
-use Rattle.exploration.proofs.UnionBytes.{total-is, total-most, members-last}
+use Rattle.exploration.proofs.HeldBytes.{held-total, held-most, held-last}
 use Rattle.admit.proofs.Holding.{held-appended}
 use Rattle.admit.proofs.Finding.{covering-found}
 
-module _ {W : List ℕ} {e : Extent} (w : Working W e) (P : Question) where
+module _ (answers : ℕ) (one : answers ≤ 1) {W : List ℕ} {e : Extent} (w : Working W e) (P : Question) where
   abbrev U : List Question
-  U = membersFrom W firstAt (e .count)
+  U = heldFrom W firstAt (e .count)
 
   -- the search for a covering member
-  covered-is : (n : ℕ) → n ≡ beforeCovering covers P (membersFrom W firstAt (e .count))
+  covered-is : (n : ℕ) → n ≡ beforeCovering covers P (heldFrom W firstAt (e .count))
       → covered covers P U ≡ ltb n (e .count)
   covered-is n h = covering-found covers P U ∙ ap₂ ltb (sym h) (members-count W firstAt (e .count))
 
-  pub fate-dropped : (n : ℕ) → n ≡ beforeCovering covers P (membersFrom W firstAt (e .count)) → n < e .count
-      → FateIs W e P W Dropped
+  pub fate-dropped : (n : ℕ) → n ≡ beforeCovering covers P (heldFrom W firstAt (e .count)) → n < e .count
+      → FateIs (limitsFor answers) W e P W Dropped
   fate-dropped n h l = (
-    admit-is covers limits (was-covered (true→T (covered covers P U) (covered-is n h ∙ lt-ltb n (e .count) l))),
+    admit-is covers (limitsFor answers) (was-covered (true→T (covered covers P U) (covered-is n h ∙ lt-ltb n (e .count) l))),
     refl,
   )
 
-  module _ (n : ℕ) (h : n ≡ beforeCovering covers P (membersFrom W firstAt (e .count))) (l : e .count ≤ n) where
+  module _ (n : ℕ) (h : n ≡ beforeCovering covers P (heldFrom W firstAt (e .count))) (l : e .count ≤ n) where
     not-covered : T (not (covered covers P U))
     not-covered = false→T (covered covers P U) (covered-is n h ∙ le-ltb n (e .count) l)
 
-    pub fate-long : 8 < length P → FateIs W e P W (Refused 8)
-    fate-long long = (too-long, admit-is covers limits (was-long not-covered long), refl)
+    pub fate-long : 8 + answers < length P → FateIs (limitsFor answers) W e P W (Refused 8)
+    fate-long long = (too-long, admit-is covers (limitsFor answers) (was-long not-covered long), refl)
 
-    module _ (short : length P ≤ 8) {X : List ℕ} {f : Extent} (x : Working X f)
+    module _ (short : length P ≤ 8 + answers) {X : List ℕ} {f : Extent} (x : Working X f)
         (kept : stateIn X f ≡ rest (stateIn W e) P)
       where
-        new : New covers limits (stateIn W e) P
+        new : New covers (limitsFor answers) (stateIn W e) P
         new = record { uncovered = not-covered; short = short }
 
         left : f .count ≡ length (remaining covers P U)
         left =
             sym (members-count X firstAt (f .count)) ∙ ap (λ (s : State). length (s .members)) kept
 
-        pub fate-full : 64 ≤ f .count → FateIs W e P X (Refused 9)
-        fate-full full = (no-room, admit-is covers limits (was-full new (omega (arith, left))), refl)
+        pub fate-full : 64 ≤ f .count → FateIs (limitsFor answers) W e P X (Refused 9)
+        fate-full full = (no-room, admit-is covers (limitsFor answers) (was-full new (omega (arith, left))), refl)
 
-        module _ (fits : Fits desk P) (room : f .count < 64) where
+        module _ (fits : Fits stored P) (room : f .count < 64) where
           abbrev longer : List Question
-          longer = membersFrom X firstAt (f .count) ++ P ∷ []
+          longer = heldFrom X firstAt (f .count) ++ P ∷ []
 
-          in-longer : (G : Question → Type 0) → ((M : Question) → M ∈ membersFrom X firstAt (f .count) → G M) → G P
+          in-longer : (G : Question → Type 0) → ((M : Question) → M ∈ heldFrom X firstAt (f .count) → G M) → G P
               → (M : Question) → M ∈ longer → G M
-          in-longer G each one M m = go (List·Memᴰ·append-cases (membersFrom X firstAt (f .count)) m)
+          in-longer G each one M m = go (List·Memᴰ·append-cases (heldFrom X firstAt (f .count)) m)
             where
-              go : (M ∈ membersFrom X firstAt (f .count)) ⊎ (M ∈ P ∷ []) → G M
+              go : (M ∈ heldFrom X firstAt (f .count)) ⊎ (M ∈ P ∷ []) → G M
               go (inl y) = each M y
               go (inr y) = subst G (sym (List·Memᴰ·eq-of-singleton y)) one
 
-          all-short : (M : Question) → M ∈ longer → length M ≤ 8
-          all-short = in-longer (λ M. length M ≤ 8) (x .short) short
+          all-short : (M : Question) → M ∈ longer → length M ≤ 9
+          all-short = in-longer (λ M. length M ≤ 9) (x .short) (omega arith)
 
           -- there is room for its record
-          pub room-left : f .len + length (recordBytes desk P) ≤ outputSize
+          pub room-left : f .len + length (recordBytes stored P) ≤ outputSize
           room-left =
               let t =
-              total-most longer
-              (omega (arith, length-append (membersFrom X firstAt (f .count)) (P ∷ []), members-count X firstAt (f .count)))
+              held-most longer
+              (omega (arith, length-append (heldFrom X firstAt (f .count)) (P ∷ []), members-count X firstAt (f .count)))
               all-short in
               omega (
                 arith,
                 x .held .ends,
-                total-is (membersFrom X firstAt (f .count)),
-                total-is longer,
-                ap length (members-last (membersFrom X firstAt (f .count)) P),
-                length-append (membersBytes (membersFrom X firstAt (f .count))) (recordBytes desk P),
+                held-total (heldFrom X firstAt (f .count)),
+                held-total longer,
+                ap length (held-last (heldFrom X firstAt (f .count)) P),
+                length-append (heldBytes (heldFrom X firstAt (f .count))) (recordBytes stored P),
               )
 
           -- with the record put after the last one
-          module _ (Y : List ℕ) (r : ℕ) (end : r ≡ f .len + length (recordBytes desk P))
-              (put : Y ≡ take (f .len) X ++ (recordBytes desk P ++ drop r X))
+          module _ (Y : List ℕ) (r : ℕ) (end : r ≡ f .len + length (recordBytes stored P))
+              (put : Y ≡ take (f .len) X ++ (recordBytes stored P ++ drop r X))
             where
               next : State
               next = record { members = longer; explored = f .front }
@@ -105,7 +106,7 @@ module _ {W : List ℕ} {e : Extent} (w : Working W e) (P : Question) where
               held =
                   subst (λ (Z : List ℕ). HoldsState Z r (f .count + 1) (f .front) next) (sym put)
                   (subst
-                  (λ (k : ℕ). HoldsState (take (f .len) X ++ (recordBytes desk P ++ drop k X)) k (f .count + 1) (f .front)
+                  (λ (k : ℕ). HoldsState (take (f .len) X ++ (recordBytes stored P ++ drop k X)) k (f .count + 1) (f .front)
                   next)
                   (sym end)
                   (held-appended (x .held) (len-most x) P room-left))
@@ -115,15 +116,15 @@ module _ {W : List ℕ} {e : Extent} (w : Working W e) (P : Question) where
               is-appended =
                   ap (λ (s : State). record { members = s .members ++ P ∷ []; explored = s .explored }) kept
 
-              all-fit : (M : Question) → M ∈ next .members → Fits desk M
+              all-fit : (M : Question) → M ∈ next .members → Fits stored M
               unfolding next
-              all-fit = in-longer (Fits desk) (x .fits) fits
+              all-fit = in-longer (Fits stored) (x .fits) fits
 
-              pub fate-appended : FateIs W e P Y
+              pub fate-appended : FateIs (limitsFor answers) W e P Y
                   (Appended (record { len = r; count = f .count + 1; front = f .front }))
               unfolding next
               fate-appended = (
-                admit-is covers limits (was-admitted (record { new = new; fits = omega (arith, left) }))
+                admit-is covers (limitsFor answers) (was-admitted (record { new = new; fits = omega (arith, left) }))
                     ∙ ap admitted (sym (state-held held all-fit ∙ is-appended)),
                 held-working held all-fit all-short (omega arith) (omega (arith, x .ahead)),
               )

@@ -9,13 +9,13 @@ use lib.ListN.{length, getD, take, drop, length-append, length-drop}
 use lib.Seq.{drop-drop, drop-at, take-at, length-take-le}
 use Rattle.covering.specs.Term.{Question}
 use Rattle.covering.specs.Search.{covers}
-use Rattle.covering.specs.Record.{desk, questionOf, recordBytes, SoundRecord, width}
+use Rattle.covering.specs.Record.{stored, questionOf, recordBytes, SoundRecord, width}
 use Rattle.reading.specs.Word.{byte}
 use Rattle.exploration.specs.Run.{remaining}
-use Rattle.exploration.specs.Union.{membersBytes, membersFrom, memberEnd}
+use Rattle.exploration.specs.Held.{heldBytes, heldFrom, heldEnd}
 use Rattle.exploration.proofs.Members.{count-from, member-width, member-bytes, members-more, members-none}
 use Rattle.admit.specs.WorkingArray.{Remain}
-use Rattle.exploration.specs.Standing.{Standing}
+use Rattle.exploration.specs.Held.{Standing}
 use Rattle.exploration.proofs.Standing.{Here, stands}
 use Rattle.covering.proofs.Slices.{part-is}
 
@@ -28,12 +28,12 @@ pub record Midway (W : List ℕ) (from to n : ℕ) (P : Question) (X : List ℕ)
   pub few : kept ≤ i
   pub standing : Standing W at (n - i)
   pub same : drop at X ≡ drop at W
-  pub bytes : take end X ++ membersBytes (remaining covers P (membersFrom W at (n - i)))
-      ≡ take to W ++ membersBytes (remaining covers P (membersFrom W from n))
-  pub ends : end + length (membersBytes (remaining covers P (membersFrom W at (n - i))))
-      ≡ to + length (membersBytes (remaining covers P (membersFrom W from n)))
-  pub count : kept + length (remaining covers P (membersFrom W at (n - i))) ≡ length (remaining covers P (membersFrom W from n))
-  pub place : at + length (membersBytes (membersFrom W at (n - i))) ≡ from + length (membersBytes (membersFrom W from n))
+  pub bytes : take end X ++ heldBytes (remaining covers P (heldFrom W at (n - i)))
+      ≡ take to W ++ heldBytes (remaining covers P (heldFrom W from n))
+  pub ends : end + length (heldBytes (remaining covers P (heldFrom W at (n - i))))
+      ≡ to + length (heldBytes (remaining covers P (heldFrom W from n)))
+  pub count : kept + length (remaining covers P (heldFrom W at (n - i))) ≡ length (remaining covers P (heldFrom W from n))
+  pub place : at + length (heldBytes (heldFrom W at (n - i))) ≡ from + length (heldBytes (heldFrom W from n))
 
 module _ (W : List ℕ) (from to n : ℕ) (P : Question) where
   pub midway-start : to ≤ from → Standing W from n → Midway W from to n P W from to 0 0
@@ -60,12 +60,12 @@ module _ (W : List ℕ) (from to n : ℕ) (P : Question) where
           lower = m .lower;
           bytes =
               sym (append-nil (take end X))
-              ∙ ap (λ (U : List Question). take end X ++ membersBytes (remaining covers P U)) (sym none)
+              ∙ ap (λ (U : List Question). take end X ++ heldBytes (remaining covers P U)) (sym none)
               ∙ m .bytes;
           ends =
-              omega (arith, m .ends, ap (λ (U : List Question). length (membersBytes (remaining covers P U))) none);
+              omega (arith, m .ends, ap (λ (U : List Question). length (heldBytes (remaining covers P U))) none);
           count = omega (arith, m .count, ap (λ (U : List Question). length (remaining covers P U)) none);
-          passed = omega (arith, m .place, ap (λ (U : List Question). length (membersBytes U)) none);
+          passed = omega (arith, m .place, ap (λ (U : List Question). length (heldBytes U)) none);
           after = m .same;
         }
 
@@ -79,30 +79,30 @@ module _ (W : List ℕ) (from to n : ℕ) (P : Question) where
           sym (count-from X at) ∙ ap (λ (l : List ℕ). getD l 0 0) (m .same) ∙ count-from W at
 
       abbrev others : List Question
-      others = membersFrom W (memberEnd W at) (n - (i + 1))
+      others = heldFrom W (heldEnd W at) (n - (i + 1))
 
       abbrev this : Question
-      this = questionOf desk (drop at W)
+      this = questionOf stored (drop at W)
 
-      without-is : (b : Bool) → covers P (questionOf desk (drop at W)) ≡ b
-          → remaining covers P (membersFrom W at (n - i))
+      without-is : (b : Bool) → covers P (questionOf stored (drop at W)) ≡ b
+          → remaining covers P (heldFrom W at (n - i))
           ≡ cond (not b) (this ∷ remaining covers P others) (remaining covers P others)
       without-is b e =
           ap (remaining covers P) (members-more W at n i h)
           ∙ ap (λ (c : Bool). cond (not c) (this ∷ remaining covers P others) (remaining covers P others)) e
 
-      place-next : memberEnd W at + length (membersBytes others) ≡ from + length (membersBytes (membersFrom W from n))
+      place-next : heldEnd W at + length (heldBytes others) ≡ from + length (heldBytes (heldFrom W from n))
       place-next =
           omega (
             arith,
             m .place,
-            ap (λ (U : List Question). length (membersBytes U)) (members-more W at n i h),
-            length-append (recordBytes desk this) (membersBytes others),
+            ap (λ (U : List Question). length (heldBytes U)) (members-more W at n i h),
+            length-append (recordBytes stored this) (heldBytes others),
             member-width W at,
           )
 
       -- the rewriting covers it: passed
-      pub midway-gone : covers P (questionOf desk (drop at W)) ≡ true
+      pub midway-gone : covers P (questionOf stored (drop at W)) ≡ true
           → Midway W from to n P X (at + (1 + byte W at * 5)) end kept (i + 1)
       midway-gone e =
           let w = without-is true e in
@@ -116,14 +116,14 @@ module _ (W : List ℕ) (from to n : ℕ) (P : Question) where
                 sym (drop-drop (1 + byte W at * 5) at X)
                 ∙ ap (drop (1 + byte W at * 5)) (m .same)
                 ∙ drop-drop (1 + byte W at * 5) at W;
-            bytes = ap (λ (U : List Question). take end X ++ membersBytes U) (sym w) ∙ m .bytes;
-            ends = omega (arith, m .ends, ap (λ (U : List Question). length (membersBytes U)) w);
+            bytes = ap (λ (U : List Question). take end X ++ heldBytes U) (sym w) ∙ m .bytes;
+            ends = omega (arith, m .ends, ap (λ (U : List Question). length (heldBytes U)) w);
             count = omega (arith, m .count, ap length w);
             place = place-next;
           }
 
       -- it does not: moved down
-      pub midway-kept : covers P (questionOf desk (drop at W)) ≡ false → (Y : List ℕ)
+      pub midway-kept : covers P (questionOf stored (drop at W)) ≡ false → (Y : List ℕ)
           → Y
           ≡ take end X ++ (take (1 + byte W at * 5) (drop at X) ++ drop (end + (1 + byte W at * 5)) X)
           → Midway W from to n P Y (at + (1 + byte W at * 5)) (end + (1 + byte W at * 5)) (kept + 1) (i + 1)
@@ -134,8 +134,8 @@ module _ (W : List ℕ) (from to n : ℕ) (P : Question) where
                 ap length moved
                 ∙ omega (
                   arith,
-                  length-append (take end X) (recordBytes desk this ++ drop (end + width) X),
-                  length-append (recordBytes desk this) (drop (end + width) X),
+                  length-append (take end X) (recordBytes stored this ++ drop (end + width) X),
+                  length-append (recordBytes stored this) (drop (end + width) X),
                   length-drop (end + width) X,
                   taken,
                   member-width W at,
@@ -155,16 +155,16 @@ module _ (W : List ℕ) (from to n : ℕ) (P : Question) where
                 ∙ ap (drop width) (m .same)
                 ∙ drop-drop width at W;
             bytes =
-                ap (λ (l : List ℕ). l ++ membersBytes (remaining covers P others)) front
-                ∙ append-assoc (take end X) (recordBytes desk this) (membersBytes (remaining covers P others))
-                ∙ ap (λ (U : List Question). take end X ++ membersBytes U) (sym w)
+                ap (λ (l : List ℕ). l ++ heldBytes (remaining covers P others)) front
+                ∙ append-assoc (take end X) (recordBytes stored this) (heldBytes (remaining covers P others))
+                ∙ ap (λ (U : List Question). take end X ++ heldBytes U) (sym w)
                 ∙ m .bytes;
             ends =
                 omega (
                   arith,
                   m .ends,
-                  ap (λ (U : List Question). length (membersBytes U)) w,
-                  length-append (recordBytes desk this) (membersBytes (remaining covers P others)),
+                  ap (λ (U : List Question). length (heldBytes U)) w,
+                  length-append (recordBytes stored this) (heldBytes (remaining covers P others)),
                   member-width W at,
                 );
             count = omega (arith, m .count, ap length w);
@@ -174,7 +174,7 @@ module _ (W : List ℕ) (from to n : ℕ) (P : Question) where
           width : ℕ
           width = 1 + byte W at * 5
 
-          w : remaining covers P (membersFrom W at (n - i)) ≡ this ∷ remaining covers P others
+          w : remaining covers P (heldFrom W at (n - i)) ≡ this ∷ remaining covers P others
           w = without-is false e
 
           inside : end + width ≤ length X
@@ -183,48 +183,48 @@ module _ (W : List ℕ) (from to n : ℕ) (P : Question) where
           taken : length (take end X) ≡ end
           taken = length-take-le end X (omega (arith, inside))
 
-          moved : Y ≡ take end X ++ (recordBytes desk this ++ drop (end + width) X)
+          moved : Y ≡ take end X ++ (recordBytes stored this ++ drop (end + width) X)
           moved =
               y
               ∙ ap (λ (l : List ℕ). take end X ++ (l ++ drop (end + width) X))
               (ap (take width) (m .same) ∙ member-bytes W at (here .sound))
 
-          grown : Y ≡ (take end X ++ recordBytes desk this) ++ drop (end + width) X
-          grown = moved ∙ sym (append-assoc (take end X) (recordBytes desk this) (drop (end + width) X))
+          grown : Y ≡ (take end X ++ recordBytes stored this) ++ drop (end + width) X
+          grown = moved ∙ sym (append-assoc (take end X) (recordBytes stored this) (drop (end + width) X))
 
-          long : length (take end X ++ recordBytes desk this) ≡ end + width
-          long = omega (arith, length-append (take end X) (recordBytes desk this), taken, member-width W at)
+          long : length (take end X ++ recordBytes stored this) ≡ end + width
+          long = omega (arith, length-append (take end X) (recordBytes stored this), taken, member-width W at)
 
-          front : take (end + width) Y ≡ take end X ++ recordBytes desk this
+          front : take (end + width) Y ≡ take end X ++ recordBytes stored this
           front =
               ap (take (end + width)) grown
-              ∙ take-at (take end X ++ recordBytes desk this) (drop (end + width) X) (end + width) long
+              ∙ take-at (take end X ++ recordBytes stored this) (drop (end + width) X) (end + width) long
 
           tail : drop (end + width) Y ≡ drop (end + width) X
           tail =
               ap (drop (end + width)) grown
-              ∙ drop-at (take end X ++ recordBytes desk this) (drop (end + width) X) (end + width) long
+              ∙ drop-at (take end X ++ recordBytes stored this) (drop (end + width) X) (end + width) long
 
           past : at + width ≡ end + width + (at - end)
           past = omega (arith, m .lower)
 
       -- The same two, as the loop's turn finds them: by the member's count and its question in the array as it is now.
-      judged : (b : Bool) → b ≡ covers P (questionOf desk (take (length X - at) (drop at X)))
-          → covers P (questionOf desk (drop at W)) ≡ b
-      judged b e = sym (e ∙ ap (λ (l : List ℕ). covers P (questionOf desk l)) (part-is X at ∙ m .same))
+      judged : (b : Bool) → b ≡ covers P (questionOf stored (take (length X - at) (drop at X)))
+          → covers P (questionOf stored (drop at W)) ≡ b
+      judged b e = sym (e ∙ ap (λ (l : List ℕ). covers P (questionOf stored l)) (part-is X at ∙ m .same))
 
       -- a turn of the loop, which goes on by the width v of the member at hand
-      module _ {v : ℕ} (q : v ≡ width desk (getD X at 0)) where
-        as-wide : v ≡ width desk (byte W at)
-        as-wide = q ∙ ap (width desk) same-count
+      module _ {v : ℕ} (q : v ≡ width stored (getD X at 0)) where
+        as-wide : v ≡ width stored (byte W at)
+        as-wide = q ∙ ap (width stored) same-count
 
-        pub turn-gone : (b : Bool) → b ≡ covers P (questionOf desk (take (length X - at) (drop at X))) → b ≡ true
+        pub turn-gone : (b : Bool) → b ≡ covers P (questionOf stored (take (length X - at) (drop at X))) → b ≡ true
             → Midway W from to n P X (at + v) end kept (i + 1)
         turn-gone b e t =
             subst (λ (k : ℕ). Midway W from to n P X (at + k) end kept (i + 1)) (sym as-wide)
             (midway-gone (judged b e ∙ t))
 
-        pub turn-kept : (b : Bool) → b ≡ covers P (questionOf desk (take (length X - at) (drop at X))) → b ≡ false
+        pub turn-kept : (b : Bool) → b ≡ covers P (questionOf stored (take (length X - at) (drop at X))) → b ≡ false
             → (Y : List ℕ) → Y ≡ take end X ++ (take v (drop at X) ++ drop (end + v) X)
             → Midway W from to n P Y (at + v) (end + v) (kept + 1) (i + 1)
         turn-kept b e t Y =
@@ -237,8 +237,8 @@ module _ (W : List ℕ) (from to n : ℕ) (P : Question) where
       pub within : at + (1 + getD X at 0 * 5) ≤ length X
       within = omega (arith, same-count, here .within, m .size)
 
-      pub sound-part : SoundRecord desk (take (length X - at) (drop at X))
-      sound-part = subst (SoundRecord desk) (sym (part-is X at ∙ m .same)) (here .sound)
+      pub sound-part : SoundRecord stored (take (length X - at) (drop at X))
+      sound-part = subst (SoundRecord stored) (sym (part-is X at ∙ m .same)) (here .sound)
 
   -- the same midway, by other names of what it is about
   pub midway-as : {X Y : List ℕ} {at i end kept k l : ℕ} → Y ≡ X → k ≡ end → l ≡ kept

@@ -8,36 +8,37 @@ use lib.ListN.{length, take, drop}
 use Rattle.covering.specs.Lists.{_∈_}
 use Rattle.covering.specs.Term.{Question}
 use Rattle.covering.specs.Search.{covers}
-use Rattle.covering.specs.Record.{desk, Fits}
+use Rattle.covering.specs.Record.{stored, Fits}
 use Rattle.admit.specs.declared.Extent.{Extent}
 use Rattle.admit.specs.declared.Moved.{Moved}
 use Rattle.admit.specs.declared.Fate.{Fate}
 use Rattle.admit.specs.declared.Fate.the-variants.{Dropped, Appended, Refused}
-use Rattle.exploration.specs.Run.{State, Test, limits, Why, refusalNumber, dropped, admitted, stopped, passed, admit}
+use Rattle.exploration.specs.Run.{State, Test, Limits, Why, refusalNumber, dropped, admitted, stopped, passed, admit}
 use Rattle.exploration.specs.Run.{remaining}
-use Rattle.exploration.specs.Union.{membersBytes, membersFrom, firstAt, total, outputSize}
+use Rattle.exploration.specs.Union.{firstAt, outputSize}
+use Rattle.exploration.specs.Held.{heldBytes, heldTotal, heldFrom}
 
--- "One working array of 2,632 bytes": the members' records stand one after the other from 8 on and end at `len`;
+-- "One working array" of an output's bytes: the members' records stand one after the other from 8 on and end at `len`;
 -- `count` members, the first `front` of them explored
 pub record HoldsState (W : List ℕ) (len count front : ℕ) (s : State) : Type 0 where
   pub size : length W ≡ outputSize
-  pub bytes : drop firstAt W ≡ membersBytes (s .members) ++ drop len W
-  pub ends : len ≡ total (s .members)
+  pub bytes : drop firstAt W ≡ heldBytes (s .members) ++ drop len W
+  pub ends : len ≡ heldTotal (s .members)
   pub members : count ≡ length (s .members)
   pub explored : front ≡ s .explored
 
 -- the state that is read from a working array filled so far
 abbrev pub stateIn : List ℕ → Extent → State
-stateIn W e = record { members = membersFrom W firstAt (e .count); explored = e .front }
+stateIn W e = record { members = heldFrom W firstAt (e .count); explored = e .front }
 
--- A working array in order: it holds the state that is read from it, at most 64 members of 1 to 8 atoms. What stands
--- in it after the last member does not count.
+-- A working array in order: it holds the state that is read from it, at most 64 members of 0 to 8 atoms and an answer
+-- record. What stands in it after the last member does not count.
 pub record Working (W : List ℕ) (e : Extent) : Type 0 where
   pub held : HoldsState W (e .len) (e .count) (e .front) (stateIn W e)
   pub few : e .count ≤ 64
   pub ahead : e .front ≤ e .count
-  pub fits : (M : Question) → M ∈ membersFrom W firstAt (e .count) → Fits desk M
-  pub short : (M : Question) → M ∈ membersFrom W firstAt (e .count) → length M ≤ 8
+  pub fits : (M : Question) → M ∈ heldFrom W firstAt (e .count) → Fits stored M
+  pub short : (M : Question) → M ∈ heldFrom W firstAt (e .count) → length M ≤ 9
 
 -- how many members stand before the first one that covers P: all of them where none does
 unfoldable pub beforeCovering : Test → Question → List Question → ℕ
@@ -49,10 +50,10 @@ beforeCovering cov P (M ∷ U) = let r = suc (beforeCovering cov P U) in cond (c
 pub record Remain (W : List ℕ) (from to n : ℕ) (P : Question) (X : List ℕ) (r : Moved) : Type 0 where
   pub size : length X ≡ length W
   pub lower : r .to ≤ r .from
-  pub bytes : take (r .to) X ≡ take to W ++ membersBytes (remaining covers P (membersFrom W from n))
-  pub ends : r .to ≡ to + length (membersBytes (remaining covers P (membersFrom W from n)))
-  pub count : r .kept ≡ length (remaining covers P (membersFrom W from n))
-  pub passed : r .from ≡ from + length (membersBytes (membersFrom W from n))
+  pub bytes : take (r .to) X ≡ take to W ++ heldBytes (remaining covers P (heldFrom W from n))
+  pub ends : r .to ≡ to + length (heldBytes (remaining covers P (heldFrom W from n)))
+  pub count : r .kept ≡ length (remaining covers P (heldFrom W from n))
+  pub passed : r .from ≡ from + length (heldBytes (heldFrom W from n))
   pub after : drop (r .from) X ≡ drop (r .from) W
 
 -- "remove every member that it covers": the members that stay, and how many of them are explored
@@ -63,9 +64,9 @@ rest s P =
       explored = length (remaining covers P (take (s .explored) (s .members)));
     }
 
--- What becomes of the rewriting P, and of the working array W: X is the array afterwards. Where the run is refused the
--- array does not count any more.
-abbrev pub FateIs : List ℕ → Extent → Question → List ℕ → Fate → Type 0
-FateIs W e P X Dropped = (admit covers limits (stateIn W e) P ≡ dropped) × (X ≡ W)
-FateIs W e P X (Appended f) = (admit covers limits (stateIn W e) P ≡ admitted (stateIn X f)) × Working X f
-FateIs W e P X (Refused n) = (w : Why) × (admit covers limits (stateIn W e) P ≡ stopped w) × (n ≡ refusalNumber w)
+-- What becomes of the rewriting P, and of the working array W, by these limits: X is the array afterwards. Where the run
+-- is refused the array does not count any more.
+abbrev pub FateIs : Limits → List ℕ → Extent → Question → List ℕ → Fate → Type 0
+FateIs lim W e P X Dropped = (admit covers lim (stateIn W e) P ≡ dropped) × (X ≡ W)
+FateIs lim W e P X (Appended f) = (admit covers lim (stateIn W e) P ≡ admitted (stateIn X f)) × Working X f
+FateIs lim W e P X (Refused n) = (w : Why) × (admit covers lim (stateIn W e) P ≡ stopped w) × (n ≡ refusalNumber w)

@@ -1,9 +1,9 @@
 // Removing every member that a rewriting covers.
 ghost use mathlib.Core.Path.{_≡_};
 ghost use Prim.Native.Nat.{_≤_};
-ghost use Rattle.covering.specs.Record.{desk, questionOf, SoundRecord};
+ghost use Rattle.covering.specs.Record.{stored, questionOf, SoundRecord};
 ghost use Rattle.admit.specs.WorkingArray.{Working, rest, Remain, stateIn};
-ghost use Rattle.exploration.specs.Standing.{Standing};
+ghost use Rattle.exploration.specs.Held.{Standing};
 use super::Extent;
 use super::FIRST;
 use super::Moved;
@@ -12,10 +12,10 @@ use super::working::move_down;
 // Keeps those of the n members from `from` on that the rewriting does not cover, one after the other from `to` on.
 // Each is moved down at most once, however many are removed.
 fn keep_uncovered(work: &mut [u8], from: usize, to: usize, n: usize, rewriting: &[u8]) -> Moved
-    requires { ⌜ (to ≤ from) × (n ≤ 64) × Standing (now work) from n × SoundRecord desk (now rewriting) ⌝ }
+    requires { ⌜ (to ≤ from) × (n ≤ 64) × Standing (now work) from n × SoundRecord stored (now rewriting) ⌝ }
     ensures { λ r. ⌜ Remain
         (now (work .entry)) from to n
-        (questionOf desk (now (rewriting .entry)))
+        (questionOf stored (now (rewriting .entry)))
         (now (work .exit)) r ⌝ }
 {
     let mut at = from;
@@ -41,10 +41,10 @@ fn keep_uncovered(work: &mut [u8], from: usize, to: usize, n: usize, rewriting: 
 
 // Removes every member that the rewriting covers; the explored ones that stay are in front again.
 pub fn remove_covered(work: &mut [u8], filled: Extent, rewriting: &[u8]) -> Extent
-    requires { ⌜ Working (now work) filled × SoundRecord desk (now rewriting) ⌝ }
+    requires { ⌜ Working (now work) filled × SoundRecord stored (now rewriting) ⌝ }
     ensures { λ r. ⌜ Working (now (work .exit)) r
         × (stateIn (now (work .exit)) r
-        ≡ rest (stateIn (now (work .entry)) filled) (questionOf desk (now (rewriting .entry)))) ⌝ }
+        ≡ rest (stateIn (now (work .entry)) filled) (questionOf stored (now (rewriting .entry)))) ⌝ }
 {
     let explored = keep_uncovered(work, FIRST, FIRST, filled.front, rewriting);
     let others = keep_uncovered(

@@ -2,20 +2,21 @@
 ghost use mathlib.Core.Path.{_≡_};
 ghost use Prim.Native.Nat.{_≤_};
 ghost use Rattle.covering.specs.Search.{covers};
-ghost use Rattle.covering.specs.Record.{desk, questionOf, SoundRecord};
-ghost use Rattle.exploration.specs.Union.{membersFrom, firstAt};
+ghost use Rattle.covering.specs.Record.{stored, questionOf, SoundRecord};
+ghost use Rattle.exploration.specs.Union.{firstAt};
+ghost use Rattle.exploration.specs.Held.{heldFrom};
 ghost use Rattle.admit.specs.WorkingArray.{beforeCovering};
-ghost use Rattle.exploration.specs.Standing.{Standing};
+ghost use Rattle.exploration.specs.Held.{Standing};
 use super::FIRST;
 
 // The number of the first of the count members that covers the rewriting, count where none does. One candidate for the
 // member's first atom is asked at a time, so that the search ends at the first that serves.
 pub fn member_covering(work: &[u8], count: usize, rewriting: &[u8]) -> usize
-    requires { ⌜ (count ≤ 64) × Standing (now work) firstAt count × SoundRecord desk (now rewriting) ⌝ }
+    requires { ⌜ (count ≤ 64) × Standing (now work) firstAt count × SoundRecord stored (now rewriting) ⌝ }
     ensures { λ r. ⌜ r
         ≡ beforeCovering covers
-        (questionOf desk (now (rewriting .entry)))
-        (membersFrom (now (work .entry)) firstAt count) ⌝ }
+        (questionOf stored (now (rewriting .entry)))
+        (heldFrom (now (work .entry)) firstAt count) ⌝ }
 {
     let w = rewriting[0] as usize;
     let mut at = FIRST;
@@ -23,6 +24,10 @@ pub fn member_covering(work: &[u8], count: usize, rewriting: &[u8]) -> usize
     let found = 'members: loop {
         if count <= i {
             break 'members count;
+        }
+        // A member without atoms covers whatever comes.
+        if work[at] == 0 {
+            break 'members i;
         }
         let width = cover::width(work[at]);
         let member = &work[at..];

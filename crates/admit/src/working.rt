@@ -4,15 +4,15 @@ ghost use mathlib.Core.Path.{_≡_};
 ghost use mathlib.Core.List.{_++_};
 ghost use Prim.Native.Nat.{_+_, _≤_};
 ghost use lib.ListN.{length, getD, take, drop};
-ghost use Rattle.covering.specs.Record.{desk, width, questionOf, recordBytes, SoundRecord};
+ghost use Rattle.covering.specs.Record.{stored, width, questionOf, recordBytes, SoundRecord};
 
 // Puts the record at len, and answers where it ends.
 pub fn append(work: &mut [u8], len: usize, member: &[u8]) -> usize
-    requires { ⌜ SoundRecord desk (now member) × (len + width desk (getD (now member) 0 0) ≤ length (now work)) ⌝ }
-    ensures { λ r. ⌜ (r ≡ len + length (recordBytes desk (questionOf desk (now (member .entry)))))
+    requires { ⌜ SoundRecord stored (now member) × (len + width stored (getD (now member) 0 0) ≤ length (now work)) ⌝ }
+    ensures { λ r. ⌜ (r ≡ len + length (recordBytes stored (questionOf stored (now (member .entry)))))
         × (now (work .exit)
         ≡ take len (now (work .entry))
-        ++ (recordBytes desk (questionOf desk (now (member .entry))) ++ drop r (now (work .entry)))) ⌝ }
+        ++ (recordBytes stored (questionOf stored (now (member .entry))) ++ drop r (now (work .entry)))) ⌝ }
 {
     let width = cover::width(member[0]);
     let mut i = 0;

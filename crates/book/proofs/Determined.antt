@@ -14,6 +14,7 @@ use Rattle.covering.proofs.Tests.{le-or-lt}
 use Rattle.reading.proofs.Exact.{verdict-only}
 use Rattle.book.proofs.check.Reads as check-reads
 use Rattle.book.proofs.read.Reads as read-reads
+use Rattle.book.proofs.header.answers.Reads as answers-reads
 use Rattle.book.proofs.starts.Reads as starts-reads
 use Rattle.book.proofs.rule_at.Reads as rule-at-reads
 use Rattle.book.proofs.question.Reads as question-reads
@@ -45,6 +46,10 @@ check-learnt κs a r s x y p q = check-determined _ p q
 
 pub read-learnt : (κs : _) (a : _) (r s : _) (x y : _) → read-reads.Learnt κs a r x → read-reads.Learnt κs a s y → r ≡ s
 read-learnt κs a r s x y p q = read-determined _ p q
+
+pub answers-learnt : (κs : _) (a : _) (r s : _) (x y : _) → answers-reads.Learnt κs a r x
+    → answers-reads.Learnt κs a s y → r ≡ s
+answers-learnt κs a r s x y p q = p ∙ sym q
 
 pub starts-learnt : (κs : _) (a : _) (r s : _) (x y : _) → starts-reads.Learnt κs a r x
     → starts-reads.Learnt κs a s y → r ≡ s

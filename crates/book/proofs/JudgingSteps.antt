@@ -14,11 +14,13 @@ use Rattle.covering.proofs.Tests.{no→false, true→T, none≢some, one-more}
 use Rattle.reading.specs.declared.Refusal.{Refusal}
 use Rattle.reading.specs.Word.{byte}
 use Rattle.reading.specs.Header.{headerSize, relations, constants, rules, atoms, questionAt, headerOf, inside}
-use Rattle.reading.specs.Header.{placesRange, atomSize, atomPlaces}
+use Rattle.reading.specs.Header.{placesRange, atomSize, atomPlaces, questionAtomsAt}
 use Rattle.reading.specs.Book.{bodyCount, headCount, bodyAt, ruleEnd, rulesStart, placesOf}
 use Rattle.reading.specs.Refusals.{placeAllowed}
 use Rattle.reading.specs.Verdict.{wrongPlaces, ruleRight, wrongRule, wrongPlace, wrongInAtom, wrongInAtoms}
-use Rattle.reading.specs.Verdict.{wrongInRules, wrongByte, refuse, told, inTable, offsetsRight, contents, verdict}
+use Rattle.reading.specs.Verdict.{wrongInRules, wrongInQuestion, wrongByte, looseVariable, refuse, told, inTable}
+use Rattle.reading.specs.Verdict.{offsetsRight, contents, verdict}
+use Rattle.book.specs.Judged.{wrongRecord}
 use Rattle.reading.proofs.Conditions.{rule-right}
 
 pub same-number : {r t : Refusal} → r ≡ t → r .number ≡ t .number
@@ -159,32 +161,53 @@ module _ (B : List ℕ) where
   abbrev pub in-rules : Option ℕ
   in-rules = wrongInRules B (rulesStart B) (rules B)
 
-  abbrev pub in-question : Option ℕ
-  in-question = wrongInAtoms B (questionAt B) (atoms B)
-
   pub byte-in-rules : (told 7 in-rules .number ≡ 0 → ⊥) → told 7 (wrongByte B) ≡ told 7 in-rules
   unfolding wrongByte
-  byte-in-rules f = else-found 7 in-rules in-question f
+  byte-in-rules f = else-found 7 in-rules (wrongInQuestion B) f
 
-  pub byte-in-question : told 7 in-rules .number ≡ 0 → told 7 (wrongByte B) ≡ told 7 in-question
+  pub byte-in-question : told 7 in-rules .number ≡ 0 → told 7 (wrongByte B) ≡ told 7 (wrongInQuestion B)
   unfolding wrongByte
-  byte-in-question e = ap (told 7) (else-next 7 in-rules in-question (omega arith) e)
+  byte-in-question e = ap (told 7) (else-next 7 in-rules (wrongInQuestion B) (omega arith) e)
+
+  -- in the question: its answer record, if it has one, then its atoms
+  pub question-in-answer : (told 7 (wrongRecord B) .number ≡ 0 → ⊥)
+      → told 7 (wrongInQuestion B) ≡ told 7 (wrongRecord B)
+  unfolding wrongInQuestion
+  question-in-answer f = else-found 7 (wrongRecord B) (wrongInAtoms B (questionAtomsAt B) (atoms B)) f
+
+  pub question-in-atoms : told 7 (wrongRecord B) .number ≡ 0
+      → told 7 (wrongInQuestion B) ≡ told 7 (wrongInAtoms B (questionAtomsAt B) (atoms B))
+  unfolding wrongInQuestion
+  question-in-atoms e =
+      ap (told 7) (else-next 7 (wrongRecord B) (wrongInAtoms B (questionAtomsAt B) (atoms B)) (omega arith) e)
+
+  -- what is left where 5 does not apply, and where 6 does not
+  abbrev after-six : Refusal
+  after-six = refuse 7 (wrongByte B) (told 11 (looseVariable B))
+
+  abbrev after-five : Refusal
+  after-five = refuse 6 six after-six
 
   pub contents-five : (told 5 five .number ≡ 0 → ⊥) → contents B ≡ told 5 five
   unfolding contents
-  contents-five f = refuse-found 5 five (refuse 6 six (told 7 (wrongByte B))) f
+  contents-five f = refuse-found 5 five after-five f
 
-  pub contents-six : told 5 five .number ≡ 0 → (told 6 six .number ≡ 0 → ⊥) → contents B ≡ told 6 six
-  unfolding contents
-  contents-six e f =
-      refuse-next 5 five (refuse 6 six (told 7 (wrongByte B))) (omega arith) e
-      ∙ refuse-found 6 six (told 7 (wrongByte B)) f
+  module _ (e : told 5 five .number ≡ 0) where
+    pub contents-six : (told 6 six .number ≡ 0 → ⊥) → contents B ≡ told 6 six
+    unfolding contents
+    contents-six f = refuse-next 5 five after-five (omega arith) e ∙ refuse-found 6 six after-six f
 
-  pub contents-seven : told 5 five .number ≡ 0 → told 6 six .number ≡ 0 → contents B ≡ told 7 (wrongByte B)
-  unfolding contents
-  contents-seven e d =
-      refuse-next 5 five (refuse 6 six (told 7 (wrongByte B))) (omega arith) e
-      ∙ refuse-next 6 six (told 7 (wrongByte B)) (omega arith) d
+    module _ (d : told 6 six .number ≡ 0) where
+      contents-bytes : contents B ≡ after-six
+      unfolding contents
+      contents-bytes = refuse-next 5 five after-five (omega arith) e ∙ refuse-next 6 six after-six (omega arith) d
+
+      pub contents-seven : (told 7 (wrongByte B) .number ≡ 0 → ⊥) → contents B ≡ told 7 (wrongByte B)
+      contents-seven f = contents-bytes ∙ refuse-found 7 (wrongByte B) (told 11 (looseVariable B)) f
+
+      pub contents-eleven : told 7 (wrongByte B) .number ≡ 0 → contents B ≡ told 11 (looseVariable B)
+      contents-eleven h =
+          contents-bytes ∙ refuse-next 7 (wrongByte B) (told 11 (looseVariable B)) (omega arith) h
 
   pub verdict-two : length B < headerSize → verdict B ≡ record { number = 2; place = 0 }
   unfolding verdict

@@ -7,41 +7,22 @@ ghost use lib.ListN.{length};
 ghost use Rattle.reading.specs.Header.{relations, constants};
 ghost use Rattle.reading.specs.Book.{ruleEnd};
 ghost use Rattle.reading.specs.Refusals.{placeAllowed};
-ghost use Rattle.reading.specs.Verdict.{inTable, offsetsRight, told, contents as contentsOf, wrongPlaces, ruleRight};
-ghost use Rattle.reading.specs.Verdict.{wrongRule, wrongPlace, wrongInAtom, wrongInAtoms, wrongInRules, wrongByte};
-ghost use Rattle.book.specs.Judged.{HeaderRight, RulesRight, Judged};
+ghost use Rattle.reading.specs.Verdict.{told, contents as contentsOf, wrongPlaces, ruleRight, wrongRule, wrongPlace};
+ghost use Rattle.reading.specs.Verdict.{wrongInAtom, wrongInAtoms, wrongInRules, wrongInQuestion, wrongByte};
+ghost use Rattle.reading.specs.Verdict.{looseVariable};
+ghost use Rattle.book.specs.Judged.{HeaderRight, RulesRight, Judged, wrongRecord};
 use super::Header;
 use super::Refusal;
+use super::answer::stands;
+use super::answer::used_places;
+use super::header::answers;
+use super::word::ANSWER;
 use super::word::ATOM;
 use super::word::HEADER;
 use super::word::PLACES;
+use super::word::VARIABLES;
 use super::word::wide;
 use super::word::within;
-
-// Whether the counts are in the table.
-pub fn in_table(h: Header) -> bool
-    ensures { λ r. ⌜ r ≡ inTable h ⌝ }
-{
-    let p = within(h.relations, 1, 64);
-    let c = within(h.constants, 0, 127);
-    let r = within(h.rules, 0, 32);
-    let n = within(h.atoms, 1, 8);
-    let l = within(h.allowed, 1, 1000);
-    p & (c & (r & (n & l)))
-}
-
-// Whether the offsets and the total are those of a book of so many bytes.
-pub fn offsets_right(h: Header, size: usize) -> bool
-    requires { ⌜ (h .relations < 65536) × (h .atoms < 65536) × (h .question < 65536) ⌝ }
-    ensures { λ r. ⌜ r ≡ offsetsRight h size ⌝ }
-{
-    let t = h.table == HEADER;
-    let s = h.start == HEADER + h.relations;
-    let q = h.start <= h.question;
-    let e = h.total == h.question + ATOM * h.atoms;
-    let z = h.total == size;
-    t & (s & (q & (e & z)))
-}
 
 // Refusal 5: the first of n relations whose number of places is wrong.
 fn wrong_places(book: &[u8], n: usize) -> Refusal
@@ -76,7 +57,7 @@ fn rule_end(book: &[u8], s: usize, end: usize) -> usize
     let b = wide(book[s]);
     let h = wide(book[s + 1]);
     let e = s + 2 + ATOM * (b + h);
-    if within(b, 1, 4) & (within(h, 1, 4) & (e <= end)) {
+    if within(b, 0, 4) & (within(h, 1, 4) & (e <= end)) {
         return e;
     }
     0
@@ -118,7 +99,7 @@ fn allowed(b: usize, used: bool, c: usize) -> bool
     ensures { λ r. ⌜ r ≡ placeAllowed c used b ⌝ }
 {
     if used {
-        let v = b < 32;
+        let v = b < VARIABLES;
         return v | ((128 <= b) & (b < 128 + c));
     }
     b == 255
@@ -204,21 +185,86 @@ fn wrong_in_rules(book: &[u8], start: usize, n: usize, end: usize, p: usize, c: 
     }
 }
 
+// Refusal 7, in the answer record, where the header announces one.
+fn wrong_answer(book: &[u8], h: Header) -> Refusal
+    requires { ⌜ HeaderRight (now book) h ⌝ }
+    ensures { λ r. ⌜ r ≡ told 7 (wrongRecord (now (book .entry))) ⌝ }
+{
+    if answers(h) == 0 {
+        return Refusal {
+            number: 0,
+            place: 0,
+        };
+    }
+    let i = h.question;
+    if wide(book[i]) != ANSWER {
+        return Refusal {
+            number: 7,
+            place: i,
+        };
+    }
+    let used = 1 + used_places(book, i + 2, PLACES - 1);
+    wrong_place(book, i + 1, used, h.constants)
+}
+
+// Refusal 7, in the question: its answer record comes before its atoms.
+fn wrong_in_question(book: &[u8], h: Header) -> Refusal
+    requires { ⌜ HeaderRight (now book) h ⌝ }
+    ensures { λ r. ⌜ r ≡ told 7 (wrongInQuestion (now (book .entry))) ⌝ }
+{
+    let r = wrong_answer(book, h);
+    if r.number != 0 {
+        return r;
+    }
+    let i = h.question + ATOM * answers(h);
+    wrong_in_atoms(book, i, h.atoms, h.relations, h.constants)
+}
+
 // Refusal 7, in the whole of a book whose header and rules are right.
 fn wrong_byte(book: &[u8], h: Header) -> Refusal
     requires { ⌜ HeaderRight (now book) h × RulesRight (now book) ⌝ }
     ensures { λ r. ⌜ r ≡ told 7 (wrongByte (now (book .entry))) ⌝ }
 {
     let p = h.relations;
-    let c = h.constants;
-    let r = wrong_in_rules(book, HEADER + p, h.rules, h.question, p, c);
+    let r = wrong_in_rules(book, HEADER + p, h.rules, h.question, p, h.constants);
     if r.number != 0 {
         return r;
     }
-    wrong_in_atoms(book, h.question, h.atoms, p, c)
+    wrong_in_question(book, h)
 }
 
-// What is wrong after the header of a book whose header is right: refusals 5, 6 and 7, in this order.
+// Refusal 11: the first answer variable that stands in no atom of the question.
+fn loose_variable(book: &[u8], h: Header) -> Refusal
+    requires { ⌜ HeaderRight (now book) h ⌝ }
+    ensures { λ r. ⌜ r ≡ told 11 (looseVariable (now (book .entry))) ⌝ }
+{
+    if answers(h) == 0 {
+        return Refusal {
+            number: 0,
+            place: 0,
+        };
+    }
+    let first = h.question + 1;
+    let atoms = h.question + ATOM;
+    let n = h.atoms;
+    let mut w: usize = 0;
+    while w < PLACES {
+        let byte = first + w;
+        if !stands(book, atoms, n, wide(book[byte])) {
+            return Refusal {
+                number: 11,
+                place: byte,
+            };
+        }
+        w = w + 1;
+    }
+    Refusal {
+        number: 0,
+        place: 0,
+    }
+}
+
+// What is wrong after the header of a book whose header is right: refusals 5, 6, 7 and 11, in this order.
 pub fn contents(book: &[u8], h: Header) -> Refusal
     requires { ⌜ HeaderRight (now book) h ⌝ }
     ensures { λ r. ⌜ r ≡ contentsOf (now (book .entry)) ⌝ }
@@ -231,5 +277,9 @@ pub fn contents(book: &[u8], h: Header) -> Refusal
     if six.number != 0 {
         return six;
     }
-    wrong_byte(book, h)
+    let seven = wrong_byte(book, h);
+    if seven.number != 0 {
+        return seven;
+    }
+    loose_variable(book, h)
 }

@@ -1,4 +1,6 @@
 // The stored book: its rules and its question.
+mod answer;
+mod header;
 mod judge;
 mod word;
 
@@ -6,14 +8,17 @@ ghost use mathlib.Core.Path.{_≡_};
 ghost use Prim.Native.Nat.{_+_, _≤_};
 ghost use lib.ListN.{length};
 ghost use Rattle.reading.specs.Header.{HeaderRead};
+ghost use Rattle.reading.specs.Book.{bookOf};
 ghost use Rattle.reading.specs.Verdict.{verdict, SoundBook};
 ghost use Rattle.book.specs.Parts.{StartsAt, partsAt};
-ghost use Rattle.covering.specs.Record.{desk};
-ghost use Rattle.covering.specs.Buffer.{heldIn};
-ghost use Rattle.reading.specs.Book.{bookOf};
+ghost use Rattle.covering.specs.Asking.{joined};
+ghost use Rattle.covering.specs.Record.{stored};
+ghost use Rattle.covering.specs.Buffer.{heldIn, recordRoom};
+use covering::RECORD;
+pub use header::answers;
+use header::in_table;
+use header::offsets_right;
 use judge::contents;
-use judge::in_table;
-use judge::offsets_right;
 pub use reading::Header;
 pub use reading::Refusal;
 use word::ATOM;
@@ -107,16 +112,17 @@ pub fn rule_at(book: &[u8], s: usize) -> Parts
     }
 }
 
-// The question of a sound book as a member record, the rest 255.
-pub fn question(book: &[u8]) -> [u8; 56]
+// The question of a sound book as a record that counts its answer record as an atom, the rest 255.
+pub fn question(book: &[u8]) -> [u8; RECORD]
     requires { ⌜ SoundBook (now book) ⌝ }
-    ensures { λ r. ⌜ r ≡ heldIn desk 56 (bookOf (now (book .entry)) .question) ⌝ }
+    ensures { λ r. ⌜ r ≡ heldIn stored recordRoom (joined (bookOf (now (book .entry)) .question)) ⌝ }
 {
     let h = read(book);
     let q = h.question;
-    let n = ATOM * h.atoms;
-    let mut r = [255u8; 56];
-    r[0] = h.atoms as u8;
+    let count = answers(h) + h.atoms;
+    let n = ATOM * count;
+    let mut r = [255u8; RECORD];
+    r[0] = count as u8;
     let mut i: usize = 0;
     while i < n {
         r[1 + i] = book[q + i];

@@ -12,6 +12,13 @@ pub const ATOM: usize = 5;
 
 pub const PLACES: usize = 4;
 
+// Bytes: the first that is no variable, an unused place, and an answer record's relation.
+pub const VARIABLES: usize = 32;
+
+pub const UNUSED: usize = 255;
+
+pub const ANSWER: usize = 255;
+
 // A byte as a number.
 pub fn wide(x: u8) -> usize
     ensures { λ r. ⌜ (r ≡ x) × (r < 256) ⌝ }

@@ -1,27 +1,14 @@
 // Books that are refused, and books that are not: what `book::check` says of each, a line a book.
-ghost use mathlib.Core.Path.{_≡_};
+mod books;
+
 ghost use Prim.Native.Nat.{_+_, _<_, _≤_};
 ghost use lib.ListN.{length};
+use books::asked;
+use books::bare;
+use books::sample;
+use books::small;
+use covering::RECORD;
 use libc::STDOUT_FILENO;
-
-// The book that 01 prints the union of: 3 relations, one rule, a question of two atoms.
-fn sample() -> [u8; 48]
-    ensures { λ r. ⌜ 48 ≡ length r ⌝ }
-{
-    *b"\x03\0\0\0\x01\0\x02\0\x0a\0\x12\0\x15\0\x26\0\x30\0\x01\x01\x02\x01\x02\
-       \x00\x00\xff\xff\xff\x01\x01\xff\xff\xff\x02\x00\x01\xff\xff\
-       \x01\x00\xff\xff\xff\x02\x01\x00\xff\xff"
-}
-
-// A book of one relation with one byte between relations and question, where no rule fits.
-fn small() -> [u8; 25] {
-    *b"\x01\0\0\0\x01\0\x01\0\x01\0\x12\0\x13\0\x14\0\x19\0\x01\x01\x00\x00\xff\xff\xff"
-}
-
-// A book with no rule.
-fn bare() -> [u8; 24] {
-    *b"\x01\0\0\0\0\0\x01\0\x01\0\x12\0\x13\0\x13\0\x18\0\x01\x00\x00\xff\xff\xff"
-}
 
 fn put(text: &[u8]) {
     io::write_all(STDOUT_FILENO, text);
@@ -71,10 +58,10 @@ fn show_span(at: usize, n: usize) {
 }
 
 // The bytes of a record.
-fn show_record(r: &[u8; 56]) {
+fn show_record(r: &[u8; RECORD]) {
     put(b"question:");
     let mut i: usize = 0;
-    while i < 56 {
+    while i < RECORD {
         put(b" ");
         byte(r[i]);
         i = i + 1;
@@ -138,6 +125,24 @@ fn small_one(name: &[u8], i: usize, x: u8)
     tell(name, &s);
 }
 
+// The book with answer places with one byte, and with two bytes, changed.
+fn asked_one(name: &[u8], i: usize, x: u8)
+    requires { ⌜ i < 35 ⌝ }
+{
+    let mut s = asked();
+    s[i] = x;
+    tell(name, &s);
+}
+
+fn asked_two(name: &[u8], i: usize, x: u8, j: usize, y: u8)
+    requires { ⌜ (i < 35) × (j < 35) ⌝ }
+{
+    let mut s = asked();
+    s[i] = x;
+    s[j] = y;
+    tell(name, &s);
+}
+
 fn sound() {
     tell(b"example", &sample());
     tell(b"no rule", &bare());
@@ -146,6 +151,7 @@ fn sound() {
     one(b"variable 31", 24, 31);
     two(b"constant 0 of 1", 2, 1, 24, 128);
     two(b"constant 126 of 127", 2, 127, 24, 254);
+    two(b"no body atom", 21, 0, 22, 3);
 }
 
 fn twos() {
@@ -199,7 +205,6 @@ fn fives() {
 }
 
 fn sixes() {
-    one(b"no body atom", 21, 0);
     one(b"5 body atoms", 21, 5);
     one(b"no head atom", 22, 0);
     one(b"5 head atoms", 22, 5);
@@ -212,7 +217,7 @@ fn more_sixes() {
     one(b"no byte for a second rule", 4, 2);
     tell(b"one count byte fits", &small());
     small_one(b"no rule, a byte left", 4, 0);
-    two(b"two rules wrong", 21, 0, 4, 2);
+    two(b"two rules wrong", 21, 5, 4, 2);
 }
 
 fn sevens() {
@@ -234,10 +239,29 @@ fn more_sevens() {
 fn competing() {
     two(b"3 and 4", 4, 33, 10, 19);
     two(b"4 and 5", 10, 19, 18, 0);
-    two(b"5 and 6", 20, 5, 21, 0);
+    two(b"5 and 6", 20, 5, 21, 5);
     two(b"6 and 7, 7 earlier", 22, 1, 23, 9);
     two(b"two bytes wrong", 47, 0, 24, 99);
     two(b"a bad relation hides its places", 23, 9, 24, 99);
+}
+
+// Books whose question has answer places.
+fn answers() {
+    tell(b"with an answer record", &asked());
+    asked_one(b"a total with neither", 16, 34);
+    asked_one(b"no answer record announced", 16, 30);
+    asked_one(b"an answer relation 0", 20, 0);
+    one(b"relation 255, not announced", 38, 255);
+    asked_one(b"no answer place", 21, 255);
+}
+
+fn more_answers() {
+    asked_one(b"constant 1 of 1 to answer", 22, 129);
+    asked_one(b"a place after a 255", 24, 0);
+    asked_one(b"a variable of the second atom", 21, 1);
+    asked_one(b"a variable of no atom", 21, 2);
+    asked_two(b"two variables of no atom", 22, 3, 21, 2);
+    asked_two(b"7 and 11, 11 earlier", 34, 0, 21, 2);
 }
 
 fn main() {
@@ -253,5 +277,8 @@ fn main() {
     sevens();
     more_sevens();
     competing();
+    answers();
+    more_answers();
     show(&sample());
+    show(&asked());
 }

@@ -1,9 +1,31 @@
 // The search desk's two operations, for any bytes whatsoever.
+use crate::record::answers;
 use crate::record::is_record;
-use crate::search::covers_sound;
+use crate::search::covers_atoms;
 ghost use mathlib.Core.Path.{_≡_};
-ghost use Rattle.covering.specs.Record.{desk};
-ghost use Rattle.covering.specs.Desk.{coversAnswer, Keeps};
+ghost use lib.Dec.{T};
+ghost use Rattle.covering.specs.Record.{desk, askingOf, isRecord};
+ghost use Rattle.covering.specs.Desk.{coversAsking, coversAnswer, Keeps};
+
+// Whether the first record covers the second. If only one has an answer record, it does not; else that record is an
+// atom as the others are.
+fn covers_record(first: &[u8], second: &[u8]) -> bool
+    requires { ⌜ T (isRecord desk (now first)) × T (isRecord desk (now second)) ⌝ }
+    ensures { λ r. ⌜ r
+        ≡ coversAsking (askingOf desk (now (first .entry))) (askingOf desk (now (second .entry))) ⌝ }
+{
+    let a = answers(first);
+    let b = answers(second);
+    if a != b {
+        return false;
+    }
+    covers_atoms(
+        first,
+        (a + first[0]) as usize,
+        second,
+        (b + second[0]) as usize,
+    )
+}
 
 // Whether the first record covers the second: 0 no, 1 yes, 2 the first is malformed, 3 the second is.
 pub fn covers(first: &[u8], second: &[u8]) -> u8
@@ -15,7 +37,7 @@ pub fn covers(first: &[u8], second: &[u8]) -> u8
     if !is_record(second) {
         return 3;
     }
-    if covers_sound(first, second) {
+    if covers_record(first, second) {
         return 1;
     }
     0

@@ -5,7 +5,7 @@ ghost use Prim.Native.Nat.{_+_, _≤_};
 ghost use lib.Dec.{T};
 ghost use lib.ListN.{length};
 ghost use Rattle.covering.specs.Search.{placeTerm, placeTerms, placeAtom};
-ghost use Rattle.covering.specs.Record.{desk, termOf, argsAt, atomAt, usedFirst, isAtom};
+ghost use Rattle.covering.specs.Record.{stored, termOf, argsAt, atomAt, usedFirst, isAtom};
 ghost use Rattle.cover.specs.HeldMap.{partOf, placedMap};
 
 // Sends the term t to the term u: a constant to itself, a variable where it went before or, the first time, to u.
@@ -37,7 +37,7 @@ fn place_term(map: [u8; 64], t: u8, u: u8) -> Placed
 
 // Sends the used places of first from i on to those of second from k on: as many, each to its own.
 fn place_terms(first: &[u8], second: &[u8], i: usize, k: usize, map: [u8; 64]) -> Placed
-    requires { ⌜ (i + 4 ≤ length (now first)) × (k + 4 ≤ length (now second)) × T (usedFirst desk (now first) i 4) ⌝ }
+    requires { ⌜ (i + 4 ≤ length (now first)) × (k + 4 ≤ length (now second)) × T (usedFirst stored (now first) i 4) ⌝ }
     ensures { λ r. ⌜ placedMap r
         ≡ placeTerms (partOf map) (argsAt (now (first .entry)) i 4) (argsAt (now (second .entry)) k 4) ⌝ }
 {
@@ -74,9 +74,9 @@ fn place_terms(first: &[u8], second: &[u8], i: usize, k: usize, map: [u8; 64]) -
 
 // Sends the atom of first at i to the atom of second at k.
 pub fn place_atom(first: &[u8], second: &[u8], i: usize, k: usize, map: [u8; 64]) -> Placed
-    requires { ⌜ (i + 5 ≤ length (now first)) × (k + 5 ≤ length (now second)) × T (isAtom desk (now first) i) ⌝ }
+    requires { ⌜ (i + 5 ≤ length (now first)) × (k + 5 ≤ length (now second)) × T (isAtom stored (now first) i) ⌝ }
     ensures { λ r. ⌜ placedMap r
-        ≡ placeAtom (partOf map) (atomAt desk (now (first .entry)) i) (atomAt desk (now (second .entry)) k) ⌝ }
+        ≡ placeAtom (partOf map) (atomAt stored (now (first .entry)) i) (atomAt stored (now (second .entry)) k) ⌝ }
 {
     if first[i] != second[k] {
         return Placed {

@@ -1,8 +1,10 @@
 // Whether bytes are a member record.
 ghost use mathlib.Core.Path.{_≡_};
+ghost use mathlib.Core.Bool.{true, cond};
 ghost use Prim.Native.Nat.{_+_, _*_, _-_, _≤_};
 ghost use lib.ListN.{length};
-ghost use Rattle.covering.specs.Record.{width as widthOf, desk, isTerm, unused, usedFirst, isAtom, areAtoms, isRecord};
+ghost use Rattle.covering.specs.Record.{width as widthOf, desk, isTerm, unused, usedFirst, arePlaces, isAtom, areAtoms};
+ghost use Rattle.covering.specs.Record.{hasAnswer, answers as answersOf, isRecord};
 
 // Whether a byte is a term: a variable, 0 to 63, or a constant, 128 to 254.
 fn is_term(b: u8) -> bool
@@ -47,6 +49,17 @@ fn used_first(s: &[u8], i: usize) -> bool
     true
 }
 
+// Whether the four places that start at i are right: one to four terms, the rest unused.
+fn are_places(s: &[u8], i: usize) -> bool
+    requires { ⌜ i + 4 ≤ length (now s) ⌝ }
+    ensures { λ r. ⌜ r ≡ arePlaces desk (now (s .entry)) i ⌝ }
+{
+    if !is_term(s[i]) {
+        return false;
+    }
+    used_first(s, i)
+}
+
 // Whether an atom starts at i.
 fn is_atom(s: &[u8], i: usize) -> bool
     requires { ⌜ i + 5 ≤ length (now s) ⌝ }
@@ -55,10 +68,7 @@ fn is_atom(s: &[u8], i: usize) -> bool
     if 64 <= s[i] {
         return false;
     }
-    if !is_term(s[i + 1]) {
-        return false;
-    }
-    used_first(s, i + 1)
+    are_places(s, i + 1)
 }
 
 // Whether n atoms start at i, one after the other.
@@ -85,22 +95,47 @@ pub fn width(count: u8) -> usize
     1 + (count as usize) * 5
 }
 
-// Whether s is a member record: 1 to 11 atoms, and a length that fits exactly.
+// How many answer records a record has: one exactly if its first atom's relation byte is 255, else none.
+pub fn answers(s: &[u8]) -> u8
+    ensures { λ r. ⌜ r ≡ answersOf (now (s .entry)) ⌝ }
+{
+    if s.len() < 2 {
+        return 0;
+    }
+    if s[1] == 255 {
+        return 1;
+    }
+    0
+}
+
+// Whether the answer record, where there is one, has its places right.
+fn answer_right(s: &[u8], a: u8) -> bool
+    requires { ⌜ (a ≡ answersOf (now s)) × (1 + a * 5 ≤ length (now s)) ⌝ }
+    ensures { λ r. ⌜ r ≡ cond (hasAnswer (now (s .entry))) (arePlaces desk (now (s .entry)) 2) true ⌝ }
+{
+    if a == 0 {
+        return true;
+    }
+    are_places(s, 2)
+}
+
+// Whether s is a member record: 0 to 11 atoms after its answer record, if any, and a length that fits exactly.
 pub fn is_record(s: &[u8]) -> bool
     ensures { λ r. ⌜ r ≡ isRecord desk (now (s .entry)) ⌝ }
 {
     if s.len() == 0 {
         return false;
     }
-    let n = s[0] as usize;
-    if n == 0 {
-        return false;
-    }
+    let n = s[0];
     if 11 < n {
         return false;
     }
-    if s.len() != width(s[0]) {
+    let a = answers(s);
+    if s.len() != width(a + n) {
         return false;
     }
-    are_atoms(s, 1, n)
+    if !answer_right(s, a) {
+        return false;
+    }
+    are_atoms(s, width(a), n as usize)
 }

@@ -9,15 +9,15 @@ ghost use lib.ListN.{length, getD};
 ghost use Rattle.covering.specs.Lists.{all};
 ghost use Rattle.covering.specs.Search.{findMap, covers};
 ghost use Rattle.cover.specs.Candidates.{tried, coversOn, hasCandidate};
-ghost use Rattle.covering.specs.Record.{desk, isAtom, atomAt, atomsAt, questionOf, SoundRecord};
+ghost use Rattle.covering.specs.Record.{stored, isAtom, atomAt, atomsAt, questionOf, SoundRecord};
 ghost use Rattle.cover.specs.HeldMap.{partOf, placedMap};
 ghost use Rattle.covering.specs.Buffer.{AtomsIn};
 
 // Whether the atom of first at i can be placed on one of the w atoms of second, as the map is now.
 fn has_candidate(first: &[u8], second: &[u8], i: usize, w: usize, map: [u8; 64]) -> bool
-    requires { ⌜ (i + 5 ≤ length (now first)) × T (isAtom desk (now first) i) × (1 + w * 5 ≤ length (now second)) ⌝ }
+    requires { ⌜ (i + 5 ≤ length (now first)) × T (isAtom stored (now first) i) × (1 + w * 5 ≤ length (now second)) ⌝ }
     ensures { λ r. ⌜ r
-        ≡ hasCandidate (partOf map) (atomsAt desk (now (second .entry)) 1 w) (atomAt desk (now (first .entry)) i) ⌝ }
+        ≡ hasCandidate (partOf map) (atomsAt stored (now (second .entry)) 1 w) (atomAt stored (now (first .entry)) i) ⌝ }
 {
     let mut at = 1;
     let mut more = w;
@@ -35,11 +35,11 @@ fn has_candidate(first: &[u8], second: &[u8], i: usize, w: usize, map: [u8; 64])
 
 // The look-ahead: whether each of the `left` atoms of first from i on has a candidate.
 fn all_have(first: &[u8], second: &[u8], i: usize, left: usize, w: usize, map: [u8; 64]) -> bool
-    requires { ⌜ AtomsIn desk (now first) i left × (1 + w * 5 ≤ length (now second)) ⌝ }
+    requires { ⌜ AtomsIn stored (now first) i left × (1 + w * 5 ≤ length (now second)) ⌝ }
     ensures { λ r. ⌜ r
         ≡ all
-        (hasCandidate (partOf map) (atomsAt desk (now (second .entry)) 1 w))
-        (atomsAt desk (now (first .entry)) i left) ⌝ }
+        (hasCandidate (partOf map) (atomsAt stored (now (second .entry)) 1 w))
+        (atomsAt stored (now (first .entry)) i left) ⌝ }
 {
     let mut at = i;
     let mut more = left;
@@ -56,11 +56,11 @@ fn all_have(first: &[u8], second: &[u8], i: usize, left: usize, w: usize, map: [
 // Takes the next atom: places the `left` atoms of first from i on, in order, on the w atoms of second. A branch in
 // which some atom has no candidate any more ends at once; that changes no answer.
 fn place_next(first: &[u8], second: &[u8], i: usize, left: usize, w: usize, map: [u8; 64]) -> Placed
-    requires { ⌜ AtomsIn desk (now first) i left × (left ≤ 11) × (w ≤ 11) × (1 + w * 5 ≤ length (now second)) ⌝ }
+    requires { ⌜ AtomsIn stored (now first) i left × (left ≤ 12) × (w ≤ 12) × (1 + w * 5 ≤ length (now second)) ⌝ }
     ensures { λ r. ⌜ placedMap r
         ≡ findMap
-        (atomsAt desk (now (first .entry)) i left)
-        (atomsAt desk (now (second .entry)) 1 w)
+        (atomsAt stored (now (first .entry)) i left)
+        (atomsAt stored (now (second .entry)) 1 w)
         (partOf map) ⌝ }
 {
     if left == 0 {
@@ -87,18 +87,18 @@ fn try_candidate(
     w: usize,
     map: [u8; 64],
 ) -> Placed
-    requires { ⌜ AtomsIn desk (now first) i (left + 1)
-        × (left < 11)
+    requires { ⌜ AtomsIn stored (now first) i (left + 1)
+        × (left < 12)
         × (more ≤ w)
-        × (w ≤ 11)
+        × (w ≤ 12)
         × (k + more * 5 ≤ length (now second))
         × (1 + w * 5 ≤ length (now second)) ⌝ }
     ensures { λ r. ⌜ placedMap r
         ≡ tried
-        (atomAt desk (now (first .entry)) i)
-        (atomsAt desk (now (first .entry)) (i + 5) left)
-        (atomsAt desk (now (second .entry)) 1 w)
-        (atomsAt desk (now (second .entry)) k more)
+        (atomAt stored (now (first .entry)) i)
+        (atomsAt stored (now (first .entry)) (i + 5) left)
+        (atomsAt stored (now (second .entry)) 1 w)
+        (atomsAt stored (now (second .entry)) k more)
         (partOf map) ⌝ }
 {
     if more == 0 {
@@ -120,25 +120,39 @@ fn try_candidate(
     try_candidate(first, second, i, left, k + 5, more - 1, w, map)
 }
 
-// Whether the first record covers the second, where both are known to be sound.
-pub fn covers_sound(first: &[u8], second: &[u8]) -> bool
-    requires { ⌜ SoundRecord desk (now first) × SoundRecord desk (now second) ⌝ }
-    ensures { λ r. ⌜ r ≡ covers (questionOf desk (now (first .entry))) (questionOf desk (now (second .entry))) ⌝ }
+// Whether the n atoms of first after its count byte cover the w of second.
+pub fn covers_atoms(first: &[u8], n: usize, second: &[u8], w: usize) -> bool
+    requires { ⌜ AtomsIn stored (now first) 1 n
+        × AtomsIn stored (now second) 1 w
+        × (n ≤ 12)
+        × (w ≤ 12) ⌝ }
+    ensures { λ r. ⌜ r
+        ≡ covers (atomsAt stored (now (first .entry)) 1 n) (atomsAt stored (now (second .entry)) 1 w) ⌝ }
 {
-    let n = first[0] as usize;
-    let w = second[0] as usize;
     let placed = place_next(first, second, 1, n, w, [255u8; 64]);
     placed.ok
 }
 
-// The same with first's first atom on atom k of second: what a loop over candidates asks.
+// Whether the first record covers the second, where both are known to be sound and count all their atoms.
+pub fn covers_sound(first: &[u8], second: &[u8]) -> bool
+    requires { ⌜ SoundRecord stored (now first) × SoundRecord stored (now second) ⌝ }
+    ensures { λ r. ⌜ r
+        ≡ covers (questionOf stored (now (first .entry))) (questionOf stored (now (second .entry))) ⌝ }
+{
+    covers_atoms(first, first[0] as usize, second, second[0] as usize)
+}
+
+// The same with first's first atom, which it has, on atom k of second: what a loop over candidates asks.
 pub fn covers_on(first: &[u8], second: &[u8], k: usize) -> bool
-    requires { ⌜ SoundRecord desk (now first) × SoundRecord desk (now second) × (k < getD (now second) 0 0) ⌝ }
+    requires { ⌜ SoundRecord stored (now first)
+        × SoundRecord stored (now second)
+        × (k < getD (now second) 0 0)
+        × (1 ≤ getD (now first) 0 0) ⌝ }
     ensures { λ r. ⌜ r
         ≡ coversOn
-        (questionOf desk (now (first .entry)))
-        (questionOf desk (now (second .entry)))
-        (atomAt desk (now (second .entry)) (1 + k * 5)) ⌝ }
+        (questionOf stored (now (first .entry)))
+        (questionOf stored (now (second .entry)))
+        (atomAt stored (now (second .entry)) (1 + k * 5)) ⌝ }
 {
     let n = first[0] as usize;
     let w = second[0] as usize;

@@ -6,14 +6,13 @@ use mathlib.Core.List.{List}
 use mathlib.Core.Option.{Option, none, some}
 use Prim.Native.Nat.{ℕ}
 use native.Mathlib.Omega.{arith}
-use Rattle.covering.specs.Term.{Question}
-use Rattle.covering.specs.Search.{covers}
-use Rattle.covering.specs.Record.{Layout, questionOf, isRecord, recordOf}
-use Rattle.covering.specs.Desk.{coversAnswer, the-first, the-second, neither, which, coversNumber}
+use Rattle.covering.specs.Asking.{Asking}
+use Rattle.covering.specs.Record.{Layout, askingOf, isRecord, recordOf}
+use Rattle.covering.specs.Desk.{coversAnswer, coversAsking, the-first, the-second, neither, which, coversNumber}
 use Rattle.covering.proofs.Tests.{either}
 
 module _ (L : Layout) (B : List ℕ) where
-  pub record-of : isRecord L B ≡ true → recordOf L B ≡ some (questionOf L B)
+  pub record-of : isRecord L B ≡ true → recordOf L B ≡ some (askingOf L B)
   unfolding recordOf
   record-of e = rw e
 
@@ -31,38 +30,38 @@ module _ (L : Layout) (A B : List ℕ) where
   answer-3 e f = rw (record-of L A e, no-record L B f)
 
   pub answer-covers : isRecord L A ≡ true → isRecord L B ≡ true
-      → coversAnswer L A B ≡ cond (covers (questionOf L A) (questionOf L B)) 1 0
+      → coversAnswer L A B ≡ cond (coversAsking (askingOf L A) (askingOf L B)) 1 0
   unfolding coversAnswer
   answer-covers e f = rw (record-of L A e, record-of L B f)
 
 -- which to keep, from the two answers
-first-kept : (x y : Option Question) → coversNumber x y ≡ 1 → which x y ≡ the-first
+first-kept : (x y : Option Asking) → coversNumber x y ≡ 1 → which x y ≡ the-first
 first-kept none y e = absurd (omega arith)
 first-kept (some A) none e = absurd (omega arith)
-first-kept (some A) (some B) e = go (either (covers A B))
+first-kept (some A) (some B) e = go (either (coversAsking A B))
   where
-    go : (covers A B ≡ true) ⊎ (covers A B ≡ false) → which (some A) (some B) ≡ the-first
+    go : (coversAsking A B ≡ true) ⊎ (coversAsking A B ≡ false) → which (some A) (some B) ≡ the-first
     go (inl t) = rw t
     go (inr f) = let z : _≡_ {A = ℕ} 0 1 = rw f at e in absurd (omega arith)
 
-second-kept : (x y : Option Question) → (coversNumber x y ≡ 1 → ⊥) → coversNumber y x ≡ 1 → which x y ≡ the-second
+second-kept : (x y : Option Asking) → (coversNumber x y ≡ 1 → ⊥) → coversNumber y x ≡ 1 → which x y ≡ the-second
 second-kept none none n e = absurd (omega arith)
 second-kept none (some B) n e = absurd (omega arith)
 second-kept (some A) none n e = absurd (omega arith)
-second-kept (some A) (some B) n e = go (either (covers A B)) (either (covers B A))
+second-kept (some A) (some B) n e = go (either (coversAsking A B)) (either (coversAsking B A))
   where
-    go : (covers A B ≡ true) ⊎ (covers A B ≡ false) → (covers B A ≡ true) ⊎ (covers B A ≡ false)
+    go : (coversAsking A B ≡ true) ⊎ (coversAsking A B ≡ false) → (coversAsking B A ≡ true) ⊎ (coversAsking B A ≡ false)
         → which (some A) (some B) ≡ the-second
     go (inl t) u = absurd (n (rw t))
     go (inr f) (inl u) = rw (f, u)
     go (inr f) (inr u) = let z : _≡_ {A = ℕ} 0 1 = rw u at e in absurd (omega arith)
 
-none-kept : (x y : Option Question) → (coversNumber x y ≡ 1 → ⊥) → (coversNumber y x ≡ 1 → ⊥) → which x y ≡ neither
+none-kept : (x y : Option Asking) → (coversNumber x y ≡ 1 → ⊥) → (coversNumber y x ≡ 1 → ⊥) → which x y ≡ neither
 none-kept none y n m = refl
 none-kept (some A) none n m = refl
-none-kept (some A) (some B) n m = go (either (covers A B)) (either (covers B A))
+none-kept (some A) (some B) n m = go (either (coversAsking A B)) (either (coversAsking B A))
   where
-    go : (covers A B ≡ true) ⊎ (covers A B ≡ false) → (covers B A ≡ true) ⊎ (covers B A ≡ false)
+    go : (coversAsking A B ≡ true) ⊎ (coversAsking A B ≡ false) → (coversAsking B A ≡ true) ⊎ (coversAsking B A ≡ false)
         → which (some A) (some B) ≡ neither
     go (inl t) u = absurd (n (rw t))
     go (inr f) (inl u) = absurd (m (rw u))

@@ -2,7 +2,7 @@
 -- sound record is the record of the question read from it. Assumes nothing.
 use mathlib.Core.Path.{_≡_, sym, _∙_, ap, ap₂, subst}
 use mathlib.Core.List.{List, _∷_, _++_}
-use Prim.Native.Nat.{ℕ, suc, _+_, _*_, _-_, _≤_}
+use Prim.Native.Nat.{ℕ, suc, _+_, _*_, _≤_}
 use native.Mathlib.Omega.{arith}
 use lib.Dec.{T}
 use lib.ListN.{length, getD, take, drop, length-append}
@@ -30,7 +30,6 @@ module _ (L : Layout) (ap-L : TellsApart L) (A : Question) (R : List ℕ) (fits 
   pub begun-sound : SoundRecord L (recordBytes L A ++ R)
   begun-sound =
       record {
-        some-atom = omega (arith, first-byte, fits .some-atom);
         most = omega (arith, first-byte, fits .most);
         fits =
             subst (λ (n : ℕ). 1 + n * size L ≤ length B) (sym first-byte)

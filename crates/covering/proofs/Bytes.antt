@@ -1,6 +1,6 @@
 -- Laws of the record's bytes, read one place at a time. Assumes nothing.
-use mathlib.Core.Path.{_≡_, sym, _∙_, ap, subst}
-use mathlib.Core.Bool.{true, false, _&&_}
+use mathlib.Core.Path.{_≡_, sym, _∙_, ap, ap₂, subst}
+use mathlib.Core.Bool.{Bool, true, false, cond, _&&_, _||_}
 use mathlib.Core.Logic.{_⊎_, inl, inr}
 use mathlib.Core.List.{List, [], _∷_}
 use Prim.Native.Nat.{ℕ, suc, _+_, _*_, _-_, _≤_, _<_}
@@ -10,8 +10,9 @@ use lib.Dec.{T, eqb, ltb, leb, ltb→lt, leb→le, eqb→eq}
 use lib.ListN.{length, getD, List·getD-eq-default}
 use Rattle.covering.specs.Term.{var, con, eqTerm}
 use Rattle.covering.specs.Record.{Layout, size, termOf, argsAt, isTerm, unused, usedFirst, isAtom, areAtoms}
-use Rattle.covering.specs.Record.{isRecord, SoundRecord}
+use Rattle.covering.specs.Record.{arePlaces, isRelation, hasAnswer, answers, isRecord, width}
 use Rattle.covering.proofs.Tests.{either, fst-of, snd-of, or-cases, true→T}
+use Rattle.covering.specs.Asking.{answerRelation}
 
 pub suc-sub-one : (n : ℕ) → suc n - 1 ≡ n
 suc-sub-one n = omega arith
@@ -113,31 +114,62 @@ term-constant L b t le = go (or-cases (ltb b (L .variables)) (leb 128 b && ltb b
 
 -- a sound atom's places are sound
 pub atom-first : (L : Layout) (B : List ℕ) (i : ℕ) → T (isAtom L B i) → T (isTerm L (getD B (i + 1) 0))
-unfolding isAtom
+unfolding isAtom arePlaces
 atom-first L B i t =
     let places = usedFirst L B (i + 1) (L .places) in
     let first = isTerm L (getD B (i + 1) 0) in
-    fst-of first places (snd-of (ltb (getD B i 0) (L .relations)) (first && places) t)
+    fst-of first places (snd-of (isRelation L (getD B i 0)) (first && places) t)
 
 pub atom-used : (L : Layout) (B : List ℕ) (i : ℕ) → T (isAtom L B i) → T (usedFirst L B (i + 1) (L .places))
-unfolding isAtom
+unfolding isAtom arePlaces
 atom-used L B i t =
-    snd-of (isTerm L (getD B (i + 1) 0)) _ (snd-of (ltb (getD B i 0) (L .relations)) _ t)
+    snd-of (isTerm L (getD B (i + 1) 0)) (usedFirst L B (i + 1) (L .places)) (snd-of (isRelation L (getD B i 0)) _ t)
+
+-- the test of a relation
+module _ (L : Layout) (b : ℕ) where
+  pub relation-in : b < L .relations → isRelation L b ≡ true
+  unfolding isRelation
+  relation-in h = rw (lt-ltb b (L .relations) h)
+
+  pub relation-out : L .answers ≡ false → L .relations ≤ b → isRelation L b ≡ false
+  unfolding isRelation
+  relation-out e h = rw (le-ltb b (L .relations) h, e)
+
+-- a relation of the layout, or an answer record
+pub relation-cases : (L : Layout) (b : ℕ) → T (isRelation L b) → (b < L .relations) ⊎ (b ≡ answerRelation)
+unfolding isRelation
+relation-cases L b t = go (or-cases (ltb b (L .relations)) (L .answers && eqb b answerRelation) t)
+  where
+    go : T (ltb b (L .relations)) ⊎ T (L .answers && eqb b answerRelation) → (b < L .relations) ⊎ (b ≡ answerRelation)
+    go (inl h) = inl (ltb→lt b (L .relations) h)
+    go (inr h) = inr (eqb→eq b answerRelation (snd-of (L .answers) _ h))
+
+-- it knows of no other numbers of the layout
+pub relation-like : (L M : Layout) (b : ℕ) → L .relations ≡ M .relations → L .answers ≡ M .answers
+    → T (isRelation L b) → T (isRelation M b)
+unfolding isRelation
+relation-like L M b e f t =
+    subst T (ap₂ (λ (n : ℕ) (x : Bool). ltb b n || (x && eqb b answerRelation)) e f) t
+
+-- the test of an atom's places
+module _ (L : Layout) (B : List ℕ) (i : ℕ) where
+  pub places-empty : isTerm L (getD B i 0) ≡ false → arePlaces L B i ≡ false
+  unfolding arePlaces
+  places-empty e = rw e
+
+  pub places-used : isTerm L (getD B i 0) ≡ true → arePlaces L B i ≡ usedFirst L B i (L .places)
+  unfolding arePlaces
+  places-used e = rw e
 
 -- the test of an atom and of atoms, one way at a time
 module _ (L : Layout) (B : List ℕ) (i : ℕ) where
-  pub atom-relation : L .relations ≤ getD B i 0 → isAtom L B i ≡ false
+  pub atom-relation : isRelation L (getD B i 0) ≡ false → isAtom L B i ≡ false
   unfolding isAtom
-  atom-relation h = rw (le-ltb (getD B i 0) (L .relations) h)
+  atom-relation e = rw e
 
-  pub atom-empty : getD B i 0 < L .relations → isTerm L (getD B (i + 1) 0) ≡ false → isAtom L B i ≡ false
+  pub atom-places : isRelation L (getD B i 0) ≡ true → isAtom L B i ≡ arePlaces L B (i + 1)
   unfolding isAtom
-  atom-empty h e = rw (lt-ltb (getD B i 0) (L .relations) h, e)
-
-  pub atom-places : getD B i 0 < L .relations → isTerm L (getD B (i + 1) 0) ≡ true
-      → isAtom L B i ≡ usedFirst L B (i + 1) (L .places)
-  unfolding isAtom
-  atom-places h e = rw (lt-ltb (getD B i 0) (L .relations) h, e)
+  atom-places e = rw e
 
   pub are-none : (n : ℕ) → n ≡ 0 → areAtoms L B i n ≡ true
   unfolding areAtoms
@@ -153,45 +185,82 @@ module _ (L : Layout) (B : List ℕ) (i : ℕ) where
 
 -- the test of a record
 module _ (L : Layout) (B : List ℕ) where
-  pub record-none : getD B 0 0 ≡ 0 → isRecord L B ≡ false
+  pub record-many : L .atoms < getD B 0 0 → isRecord L B ≡ false
   unfolding isRecord
-  record-none e = rw e
+  record-many m = rw (lt-leb (getD B 0 0) (L .atoms) m)
 
-  pub record-empty : length B ≡ 0 → isRecord L B ≡ false
-  record-empty e = record-none (List·getD-eq-default B 0 {n = 0} (omega arith))
-
-  pub record-many : 0 < getD B 0 0 → L .atoms < getD B 0 0 → isRecord L B ≡ false
-  unfolding isRecord
-  record-many s m = rw (le-leb 1 (getD B 0 0) s, lt-leb (getD B 0 0) (L .atoms) m)
-
-  module _ (s : 0 < getD B 0 0) (m : getD B 0 0 ≤ L .atoms) where
-    pub record-misfit : (length B ≡ 1 + getD B 0 0 * size L → ⊥) → isRecord L B ≡ false
+  module _ (m : getD B 0 0 ≤ L .atoms) where
+    pub record-misfit : (length B ≡ width L (answers B + getD B 0 0) → ⊥) → isRecord L B ≡ false
     unfolding isRecord
     record-misfit ne =
-        rw (le-leb 1 (getD B 0 0) s, le-leb (getD B 0 0) (L .atoms) m, ne-eqb (length B) (1 + getD B 0 0 * size L) ne)
+        rw (
+          le-leb (getD B 0 0) (L .atoms) m,
+          ne-eqb (length B) (width L (answers B + getD B 0 0)) ne,
+        )
 
-    pub record-fits : length B ≡ 1 + getD B 0 0 * size L → isRecord L B ≡ areAtoms L B 1 (getD B 0 0)
+    pub record-fits : length B ≡ width L (answers B + getD B 0 0)
+        → isRecord L B
+        ≡ (cond (hasAnswer B) (arePlaces L B 2) true && areAtoms L B (1 + answers B * size L) (getD B 0 0))
     unfolding isRecord
     record-fits e =
-        rw (le-leb 1 (getD B 0 0) s, le-leb (getD B 0 0) (L .atoms) m, eq-eqb (length B) (1 + getD B 0 0 * size L) e)
+        rw (
+          le-leb (getD B 0 0) (L .atoms) m,
+          eq-eqb (length B) (width L (answers B + getD B 0 0)) e,
+        )
 
--- a record that passed fits exactly, and is sound
-pub record-length : (L : Layout) (B : List ℕ) → T (isRecord L B) → length B ≡ 1 + getD B 0 0 * size L
-unfolding isRecord
-record-length L B t =
-    let n = getD B 0 0 in
-    let rest = snd-of (leb 1 n && leb n (L .atoms)) _ t in
-    eqb→eq (length B) (1 + n * size L) (fst-of (eqb (length B) (1 + n * size L)) _ rest)
+  pub record-empty : length B ≡ 0 → isRecord L B ≡ false
+  record-empty e =
+      let none = List·getD-eq-default B 0 {n = 0} (omega arith) in
+      record-misfit (omega (arith, none)) (λ f. omega (arith, f, e))
 
-pub record-sound : (L : Layout) (B : List ℕ) → T (isRecord L B) → SoundRecord L B
+-- how many answer records there are
+module _ (B : List ℕ) where
+  pub answers-none : (getD B 1 0 ≡ answerRelation → ⊥) → answers B ≡ 0
+  unfolding hasAnswer
+  answers-none ne = rw (ne-eqb (getD B 1 0) answerRelation ne)
+
+  pub answers-one : getD B 1 0 ≡ answerRelation → answers B ≡ 1
+  unfolding hasAnswer
+  answers-one e = rw (eq-eqb (getD B 1 0) answerRelation e)
+
+  pub not-answered : answers B ≡ 0 → hasAnswer B ≡ false
+  not-answered e = go (either (hasAnswer B))
+    where
+      go : (hasAnswer B ≡ true) ⊎ (hasAnswer B ≡ false) → hasAnswer B ≡ false
+      go (inl t) = let x : _≡_ {A = ℕ} 1 0 = rw t at e in absurd (omega arith)
+      go (inr f) = f
+
+  pub is-answered : (answers B ≡ 0 → ⊥) → hasAnswer B ≡ true
+  is-answered ne = go (either (hasAnswer B))
+    where
+      go : (hasAnswer B ≡ true) ⊎ (hasAnswer B ≡ false) → hasAnswer B ≡ true
+      go (inl t) = t
+      go (inr f) = absurd (ne (rw f))
+
+  pub answers-few : answers B ≤ 1
+  answers-few = go (either (hasAnswer B))
+    where
+      go : (hasAnswer B ≡ true) ⊎ (hasAnswer B ≡ false) → answers B ≤ 1
+      go (inl t) = rw t (omega arith)
+      go (inr f) = rw f (omega arith)
+
+-- what a record that passed keeps to
+pub record Passed (L : Layout) (B : List ℕ) : Type 0 where
+  pub most : getD B 0 0 ≤ L .atoms
+  pub exact : length B ≡ width L (answers B + getD B 0 0)
+  pub places : T (cond (hasAnswer B) (arePlaces L B 2) true)
+  pub atoms : T (areAtoms L B (1 + answers B * size L) (getD B 0 0))
+
+pub record-passed : (L : Layout) (B : List ℕ) → T (isRecord L B) → Passed L B
 unfolding isRecord
-record-sound L B t =
+record-passed L B t =
     let n = getD B 0 0 in
-    let count = fst-of (leb 1 n && leb n (L .atoms)) _ t in
-    let rest = snd-of (leb 1 n && leb n (L .atoms)) _ t in
+    let w = width L (answers B + n) in
+    let first = cond (hasAnswer B) (arePlaces L B 2) true in
+    let rest = snd-of (leb n (L .atoms)) _ t in
     record {
-      some-atom = leb→le 1 n (fst-of (leb 1 n) (leb n (L .atoms)) count);
-      most = leb→le n (L .atoms) (snd-of (leb 1 n) (leb n (L .atoms)) count);
-      fits = omega (arith, record-length L B t);
-      atoms = snd-of (eqb (length B) (1 + n * size L)) _ rest;
+      most = leb→le n (L .atoms) (fst-of (leb n (L .atoms)) _ t);
+      exact = eqb→eq (length B) w (fst-of (eqb (length B) w) _ rest);
+      places = fst-of first _ (snd-of (eqb (length B) w) _ rest);
+      atoms = snd-of first _ (snd-of (eqb (length B) w) _ rest);
     }

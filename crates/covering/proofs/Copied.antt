@@ -5,11 +5,11 @@ use mathlib.Core.List.{List, [], _∷_}
 use Prim.Native.Nat.{ℕ, zero, suc, _+_, _*_, _≤_, _<_}
 use native.Mathlib.Nat.{suc-mul}
 use native.Mathlib.Omega.{arith}
-use lib.Dec.{eqb, ltb}
+use lib.Dec.{eqb}
 use lib.ListN.{getD}
 use Rattle.covering.specs.Term.{Term, Atom}
 use Rattle.covering.specs.Record.{Layout, size, termOf, argsAt, atomsAt, atomAt, isTerm, unused, usedFirst}
-use Rattle.covering.specs.Record.{isAtom, areAtoms}
+use Rattle.covering.specs.Record.{isAtom, areAtoms, arePlaces, isRelation}
 use Rattle.covering.proofs.Places.{args-none, args-step}
 
 module _ (L : Layout) (B R : List ℕ) where
@@ -50,10 +50,10 @@ module _ (L : Layout) (B R : List ℕ) where
 
   module _ (some-place : 1 ≤ L .places) where
     is-copied : (i k : ℕ) → Copied i k (size L) → isAtom L R i ≡ isAtom L B k
-    unfolding isAtom
+    unfolding isAtom arePlaces
     is-copied i k c =
         let rest : Copied (i + 1) (k + 1) (L .places) = copied-rest i k 1 (L .places) c in
-        ap₂ _&&_ (ap (λ (x : ℕ). ltb x (L .relations)) (copied-first i k (size L) (omega arith) c))
+        ap₂ _&&_ (ap (isRelation L) (copied-first i k (size L) (omega arith) c))
         (ap₂ _&&_ (ap (isTerm L) (copied-first (i + 1) (k + 1) (L .places) some-place rest))
         (used-copied (i + 1) (k + 1) (L .places) rest))
 

@@ -14,14 +14,14 @@ use Rattle.covering.specs.Lists.{_∈_}
 use Rattle.covering.specs.Term.{Term, var, con, Atom, Question, on-term, on-atom, terms}
 use Rattle.covering.specs.Form.{dedup, firsts, index, numbering, renumber, form}
 use Rattle.covering.specs.Record.{Layout, size, termOf, argsAt, atomAt, atomsAt, questionOf, isTerm, unused}
-use Rattle.covering.specs.Record.{usedFirst, isAtom, areAtoms, TermFits, AtomFits, Fits, SoundRecord}
+use Rattle.covering.specs.Record.{usedFirst, isAtom, areAtoms, TermFits, AtomFits, Fits, SoundRecord, isRelation}
 use Rattle.covering.proofs.Tests.{decide, clash, cond-yes, cond-no, fst-of, snd-of, or-cases, true→T, false→no}
 use Rattle.covering.proofs.Terms.{terms-in}
 use Rattle.covering.proofs.Form.{dedup-out, firsts-in}
-use Rattle.covering.proofs.Bytes.{term-var, term-con, atom-used}
+use Rattle.covering.proofs.Bytes.{term-var, term-con, atom-used, atom-first}
 use Rattle.covering.proofs.Lengths.{question-count}
 use Rattle.covering.proofs.RoundTrip.{TellsApart}
-use Rattle.covering.proofs.FormSizes.{firsts-few, dedup-some, terms-few, dedup-few}
+use Rattle.covering.proofs.FormSizes.{firsts-few, terms-few, dedup-few}
 
 module _ (L : Layout) (ap-L : TellsApart L) where
   term-fits : (b : ℕ) → T (isTerm L b) → TermFits L (termOf b)
@@ -84,11 +84,10 @@ module _ (L : Layout) (ap-L : TellsApart L) where
       pub atom-fits : (i : ℕ) → T (isAtom L B i) → AtomFits L (atomAt L B i)
       unfolding isAtom atomAt
       atom-fits i t =
-          let rest = snd-of (ltb (getD B i 0) (L .relations)) _ t in
-          let first = fst-of (isTerm L (getD B (i + 1) 0)) _ rest in
           record {
-            relation = ltb→lt (getD B i 0) (L .relations) (fst-of (ltb (getD B i 0) (L .relations)) _ t);
-            some-place = args-some (L .places) (i + 1) some-place (term-is-used (getD B (i + 1) 0) first);
+            relation = fst-of (isRelation L (getD B i 0)) _ t;
+            some-place =
+                args-some (L .places) (i + 1) some-place (term-is-used (getD B (i + 1) 0) (atom-first L B i t));
             places = args-few (L .places) (i + 1);
             terms = λ u m. args-fit (L .places) (i + 1) u (atom-used L B i t) m;
           }
@@ -109,7 +108,6 @@ module _ (L : Layout) (ap-L : TellsApart L) where
       sound-fits s =
           let e = question-count L B in
           record {
-            some-atom = rw e (s .some-atom);
             most = rw e (s .most);
             each = λ a m. atoms-fit (getD B 0 0) 1 a (s .atoms) m;
           }
@@ -118,7 +116,6 @@ module _ (L : Layout) (ap-L : TellsApart L) where
 pub dedup-fits : (L : Layout) (A : Question) → Fits L A → Fits L (dedup A)
 dedup-fits L A f =
     record {
-      some-atom = dedup-some A (f .some-atom);
       most = omega (arith, dedup-few A, f .most);
       each = λ a m. f .each a (dedup-out A a m);
     }
@@ -164,7 +161,6 @@ module _ (L : Layout) (A : Question) (f : Fits L A) where
     pub renumber-fits : Fits L (renumber A)
     renumber-fits =
         record {
-          some-atom = rw (length-map A (on-atom (numbering A))) (f .some-atom);
           most = rw (length-map A (on-atom (numbering A))) (f .most);
           each = λ b m. go (Memᴰ·of-map (on-atom (numbering A)) A m);
         }

@@ -19,7 +19,7 @@ unfolding questionOf
 question-count L B = count-atoms L B (getD B 0 0) 1
 
 -- an atom takes the layout's size, a record one byte more than its atoms
-places-long : (w : ℕ) (ts : List Term) → length (placesBytes w ts) ≡ w
+pub places-long : (w : ℕ) (ts : List Term) → length (placesBytes w ts) ≡ w
 places-long zero ts = refl
 places-long (suc w) [] = ap suc (places-long w [])
 places-long (suc w) (t ∷ ts) = ap suc (places-long w ts)

@@ -24,9 +24,18 @@ pub mod Begun
 -- what fits a record; another layout
 pub mod Fitting
 pub mod Wider
--- the desk's answers and limits
+-- questions with answer places
+pub mod Asked
+pub mod Shaped
+pub mod AnswerVariables
+pub mod Always
+-- the desk's answers and limits; examples
+pub mod DeskRecords
+pub mod AskingTrip
+pub mod AnsweredCovers
 pub mod Answers
 pub mod Limits
+pub mod Examples
 -- records and atoms in a buffer
 pub mod Padded
 pub mod Within

@@ -1,17 +1,73 @@
--- The desk's limits, by computation: "relations 0 to 63, first one to four places used with 0 to 63 or 128 to 254".
--- Assumes nothing.
+-- The desk's limits and answers, by computation: "A record has .. to 11 atoms and exactly fitting length, relations 0 to
+-- 63, first one to four places used with 0 to 63 or 128 to 254, the rest 255"; and with answer places. Assumes nothing.
 use mathlib.Core.Path.{_≡_, refl}
 use mathlib.Core.Bool.{true, false}
-use mathlib.Core.List.{List, [], _∷_}
+use mathlib.Core.List.{List, [], _∷_, _++_}
 use Prim.Native.Nat.{ℕ}
-use Rattle.covering.specs.Record.{desk, isTerm, unused, usedFirst, isAtom, areAtoms, isRecord}
+use Rattle.covering.specs.Lists.{gather, numbers}
+use Rattle.covering.specs.Search.{findMap, firstMap, covers}
+use Rattle.covering.specs.Record.{desk, termOf, argsAt, atomAt, atomsAt, isTerm, unused, usedFirst, arePlaces}
+use Rattle.covering.specs.Record.{isRelation, isAtom, areAtoms, hasAnswer, askingOf, isRecord, recordOf}
+use Rattle.covering.specs.Desk.{coversAnswer, the-first, the-second, neither, which}
 
--- a record of one atom with one place used
+-- an atom with one place used, and with two
+abbrev atom : ℕ → ℕ → List ℕ
+atom relation term = relation ∷ term ∷ 255 ∷ 255 ∷ 255 ∷ []
+
+abbrev pair : ℕ → ℕ → ℕ → List ℕ
+pair relation t u = relation ∷ t ∷ u ∷ 255 ∷ 255 ∷ []
+
+-- a record of one atom
 abbrev one : ℕ → ℕ → List ℕ
-one relation term = 1 ∷ relation ∷ term ∷ 255 ∷ 255 ∷ 255 ∷ []
+one relation term = 1 ∷ atom relation term
+
+-- n atoms after a count
+abbrev many : ℕ → ℕ → List ℕ
+many count n = count ∷ gather (λ (k : ℕ). atom 0 0) (numbers 0 n)
 
 pub limits-hold : (isRecord desk (one 63 63) ≡ true) × (isRecord desk (one 64 63) ≡ false)
     × (isRecord desk (one 0 64) ≡ false) × (isRecord desk (one 0 127) ≡ false)
     × (isRecord desk (one 0 128) ≡ true) × (isRecord desk (one 0 254) ≡ true) × (isRecord desk (one 0 255) ≡ false)
-unfolding isTerm unused usedFirst isAtom areAtoms isRecord
-limits-hold = (refl, refl, refl, refl, refl, refl, refl)
+    × (isRecord desk (0 ∷ []) ≡ true) × (isRecord desk [] ≡ false) × (isRecord desk (many 11 11) ≡ true) × (isRecord desk (many 12 12) ≡ false)
+    × (isRecord desk (many 1 2) ≡ false) × (isRecord desk (many 2 1) ≡ false)
+unfolding isTerm unused usedFirst arePlaces isRelation isAtom areAtoms hasAnswer isRecord
+limits-hold = (refl, refl, refl, refl, refl, refl, refl, refl, refl, refl, refl, refl, refl)
+
+-- p(v0), a(v0) p(v0), a(c0) p(c0), a(v0,v0) p(v0)
+abbrev plain : List ℕ
+plain = one 0 0
+
+abbrev asked : List ℕ
+asked = 1 ∷ (atom 255 0 ++ atom 0 0)
+
+abbrev constant : List ℕ
+constant = 1 ∷ (atom 255 128 ++ atom 0 128)
+
+abbrev twice : List ℕ
+twice = 1 ∷ (pair 255 0 0 ++ atom 0 0)
+
+-- the answer record is not counted, must be right, and is no atom; "if only one does, covering is no"
+pub answers-hold : (isRecord desk asked ≡ true) × (isRecord desk (2 ∷ (atom 255 0 ++ atom 0 0)) ≡ false)
+    × (isRecord desk (1 ∷ (atom 255 255 ++ atom 0 0)) ≡ false) × (isRecord desk (1 ∷ (atom 0 0 ++ atom 255 0)) ≡ false)
+    × (isRecord desk (1 ∷ atom 255 0) ≡ false)
+    × (coversAnswer desk plain (one 0 128) ≡ 1) × (coversAnswer desk (one 0 128) plain ≡ 0)
+    × (coversAnswer desk asked constant ≡ 1) × (coversAnswer desk constant asked ≡ 0)
+    × (coversAnswer desk plain constant ≡ 0) × (coversAnswer desk constant plain ≡ 0)
+    × (coversAnswer desk asked twice ≡ 0) × (coversAnswer desk twice asked ≡ 0)
+    × (coversAnswer desk (1 ∷ []) plain ≡ 2) × (coversAnswer desk plain (1 ∷ []) ≡ 3)
+    × (coversAnswer desk (1 ∷ []) (1 ∷ []) ≡ 2)
+    × (coversAnswer desk (0 ∷ []) plain ≡ 1) × (coversAnswer desk plain (0 ∷ []) ≡ 0)
+    × (coversAnswer desk (0 ∷ []) (0 ∷ []) ≡ 1) × (coversAnswer desk (0 ∷ []) asked ≡ 0)
+unfolding isTerm unused usedFirst arePlaces isRelation isAtom areAtoms hasAnswer isRecord recordOf askingOf termOf argsAt
+    atomAt atomsAt findMap firstMap covers coversAnswer
+answers-hold =
+    (refl, refl, refl, refl, refl, refl, refl, refl, refl, refl, refl, refl, refl, refl, refl, refl, refl, refl, refl, refl)
+
+-- which of two is kept: the covering one, the first of two equivalent ones, or neither
+pub keeping-holds : (which (recordOf desk plain) (recordOf desk (one 0 128)) ≡ the-first)
+    × (which (recordOf desk (one 0 128)) (recordOf desk plain) ≡ the-second)
+    × (which (recordOf desk plain) (recordOf desk (one 0 1)) ≡ the-first)
+    × (which (recordOf desk plain) (recordOf desk asked) ≡ neither)
+unfolding isTerm unused usedFirst arePlaces isRelation isAtom areAtoms hasAnswer isRecord recordOf askingOf termOf argsAt
+    atomAt atomsAt findMap firstMap covers
+keeping-holds = (refl, refl, refl, refl)

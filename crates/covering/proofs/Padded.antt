@@ -11,10 +11,10 @@ use lib.Seq.{paste, take-at, drop-append-add}
 use Rattle.covering.specs.Lists.{_∈_, gather}
 use Rattle.covering.specs.Term.{Atom, Question}
 use Rattle.covering.specs.Record.{Layout, size, atomsAt, areAtoms, questionOf, atomBytes, recordBytes, AtomFits}
-use Rattle.covering.specs.Record.{Fits, SoundRecord, desk}
-use Rattle.covering.specs.Buffer.{AtomsIn, heldIn, RoomLeft}
+use Rattle.covering.specs.Record.{Fits, SoundRecord, stored}
+use Rattle.covering.specs.Buffer.{AtomsIn, heldIn, RoomLeft, recordRoom}
 use Rattle.covering.proofs.Lengths.{count-atoms, atoms-long, record-is, record-long}
-use Rattle.covering.proofs.RoundTrip.{atoms-read, atoms-back, TellsApart, desk-apart}
+use Rattle.covering.proofs.RoundTrip.{atoms-read, atoms-back, TellsApart, stored-apart}
 use Rattle.covering.proofs.Lists.{gather-append}
 use Rattle.covering.proofs.Slices.{rest-free}
 use Rattle.covering.proofs.Begun.{begun-record, begun-long}
@@ -53,7 +53,6 @@ module _ (L : Layout) (n : ℕ) (A : Question) where
   pub held-sound : TellsApart L → Fits L A → 1 + length A * size L ≤ n → SoundRecord L (heldIn L n A)
   held-sound ap-L fits h =
       record {
-        some-atom = rw held-count (fits .some-atom);
         most = rw held-count (fits .most);
         fits = rw (held-count, held-length h) h;
         atoms = held-atoms ap-L (fits .each);
@@ -159,12 +158,12 @@ pub held-written : (L M : Layout) → Wider L M → (n : ℕ) (A : Question) →
 unfolding heldIn
 held-written L M w n A = ap (λ (r : List ℕ). r ++ replicate (n - length r) 255) (record-written L M w A)
 
--- at the desk's layout, in the 56 bytes that eleven atoms take
-pub sound-desk : (R : List ℕ) → SoundRecord desk R → Fits desk (questionOf desk R)
-sound-desk R s = sound-fits desk desk-apart R (omega arith) s
+-- in the bytes in which the code holds a record
+pub sound-stored : (R : List ℕ) → SoundRecord stored R → Fits stored (questionOf stored R)
+sound-stored R s = sound-fits stored stored-apart R (omega arith) s
 
-pub desk-sound : (A : Question) → Fits desk A → SoundRecord desk (heldIn desk 56 A)
-desk-sound A f = held-sound desk 56 A desk-apart f (omega (arith, f .most))
+pub stored-sound : (A : Question) → Fits stored A → SoundRecord stored (heldIn stored recordRoom A)
+stored-sound A f = held-sound stored recordRoom A stored-apart f (omega (arith, f .most))
 
-pub desk-question : (A : Question) → Fits desk A → questionOf desk (heldIn desk 56 A) ≡ A
-desk-question A f = held-question desk 56 A desk-apart (f .each)
+pub stored-question : (A : Question) → Fits stored A → questionOf stored (heldIn stored recordRoom A) ≡ A
+stored-question A f = held-question stored recordRoom A stored-apart (f .each)

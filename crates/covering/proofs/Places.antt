@@ -13,7 +13,7 @@ use lib.ListN.{length, getD}
 use Rattle.covering.specs.Lists.{_∈_}
 use Rattle.covering.specs.Term.{Term, Atom, Sub, terms, on-question, on-term, Question}
 use Rattle.covering.specs.Record.{Layout, size, termOf, argsAt, atomAt, atomsAt, questionOf, isTerm, unused}
-use Rattle.covering.specs.Record.{usedFirst, isAtom, areAtoms}
+use Rattle.covering.specs.Record.{usedFirst, isAtom, areAtoms, arePlaces, isRelation}
 use Rattle.covering.proofs.Tests.{decide, clash, both, snd-of, or-left, or-right, cond-yes, fst-of}
 use Rattle.covering.proofs.Bytes.{suc-sub-one}
 
@@ -135,13 +135,12 @@ module _ (L : Layout) (B : List ℕ) where
       (λ v h. later Full i v (f (suc v) (omega arith)))
       (λ v h m. later (Empty B) i v (g (suc v) (omega arith) (omega arith))))
 
-  pub is-atom : (i u : ℕ) → getD B i 0 < L .relations → 1 ≤ u → u ≤ L .places
+  pub is-atom : (i u : ℕ) → T (isRelation L (getD B i 0)) → 1 ≤ u → u ≤ L .places
       → ((v : ℕ) → v < u → Full (i + 1 + v)) → ((v : ℕ) → u ≤ v → v < L .places → Empty B (i + 1 + v))
       → T (isAtom L B i)
-  unfolding isAtom
+  unfolding isAtom arePlaces
   is-atom i u r l m f g =
-      both (ltb (getD B i 0) (L .relations)) (isTerm L (getD B (i + 1) 0) && usedFirst L B (i + 1) (L .places))
-      (lt→ltb _ _ r)
+      both (isRelation L (getD B i 0)) (isTerm L (getD B (i + 1) 0) && usedFirst L B (i + 1) (L .places)) r
       (both (isTerm L (getD B (i + 1) 0)) (usedFirst L B (i + 1) (L .places)) (here Full (i + 1) (f 0 (omega arith)))
       (used-first (i + 1) u (L .places) m f g))
 

@@ -1,29 +1,26 @@
--- From bytes to a question and back gives the same bytes, and from a question to bytes and back the same question.
--- Assumes nothing.
+-- Atoms: from bytes and back gives the same bytes, and to bytes and back the same atoms. Assumes nothing.
 use mathlib.Core.Path.{_≡_, refl, sym, _∙_, ap, ap₂, subst}
 use mathlib.Core.Bool.{Bool, true, false, cond, _&&_, _||_}
 use mathlib.Core.Logic.{_⊎_, inl, inr}
-use mathlib.Core.List.{List, [], _∷_, _++_, append-assoc, append-nil, nil≢cons, head-eq-of-cons-eq}
+use mathlib.Core.List.{List, [], _∷_, _++_, append-assoc, nil≢cons, head-eq-of-cons-eq}
 use mathlib.Core.List.{tail-eq-of-cons-eq, List·Memᴰ·head, List·Memᴰ·tail}
-use mathlib.Core.Option.{some, Option·some-injective}
 use Prim.Native.Nat.{ℕ, zero, suc, _+_, _*_, _≤_, _<_}
 use native.Mathlib.Omega.{arith}
 use native.Mathlib.Nat.{add-zero}
 use native.Mathlib.Numerals.{add-one}
 use borrow.Author.Tests.{ltb-true, ltb-false, eq-eqb, ne-eqb}
 use lib.Dec.{T, eqb, ltb, leb, lt→ltb, le→leb, eqb→eq}
-use lib.ListN.{length, getD, take, drop, length-drop}
-use lib.Seq.{drop-cons, take-add, take-all, drop-drop}
+use lib.ListN.{length, getD, take, drop}
+use lib.Seq.{drop-cons, take-add, drop-drop}
 use Rattle.covering.specs.Lists.{_∈_, gather}
 use Rattle.covering.specs.Term.{Term, var, con, Atom, Question}
-use Rattle.covering.specs.Record.{Layout, desk, size, termOf, argsAt, atomAt, atomsAt, questionOf, isTerm}
-use Rattle.covering.specs.Record.{unused, usedFirst, isAtom, areAtoms, isRecord, recordOf, byteOf, placesBytes}
-use Rattle.covering.specs.Record.{atomBytes, recordBytes, TermFits, AtomFits, Fits, SoundRecord}
-use Rattle.covering.proofs.Tests.{either, both, fst-of, snd-of, or-left, or-right, true→T, T→true, none≢some}
+use Rattle.covering.specs.Record.{Layout, desk, size, termOf, argsAt, atomAt, atomsAt, isTerm}
+use Rattle.covering.specs.Record.{unused, usedFirst, isAtom, areAtoms, byteOf, placesBytes}
+use Rattle.covering.specs.Record.{atomBytes, TermFits, AtomFits, stored}
+use Rattle.covering.specs.Record.{arePlaces, isRelation}
+use Rattle.covering.proofs.Tests.{either, both, fst-of, snd-of, or-left, or-right, true→T, T→true}
 use Rattle.covering.proofs.Terms.{atom-path}
-use Rattle.covering.proofs.Bytes.{term-var, term-con, atom-used, record-fits, record-sound, record-length}
-use Rattle.covering.proofs.Lengths.{count-atoms, record-long}
-use Rattle.covering.proofs.Answers.{record-of, no-record}
+use Rattle.covering.proofs.Bytes.{term-var, term-con, atom-used}
 
 -- bytes tell variables from constants, and 255 is neither
 pub record TellsApart (L : Layout) : Type 0 where
@@ -32,6 +29,9 @@ pub record TellsApart (L : Layout) : Type 0 where
 
 pub desk-apart : TellsApart desk
 desk-apart = record { variables = omega arith; constants = omega arith }
+
+pub stored-apart : TellsApart stored
+stored-apart = record { variables = omega arith; constants = omega arith }
 
 byte-back : (b : ℕ) → byteOf (termOf b) ≡ b
 byte-back b = go (either (ltb b 128))
@@ -108,7 +108,7 @@ module _ (L : Layout) (ap-L : TellsApart L) (B : List ℕ) where
     pub rest : drop (i + w) B ≡ R
     pub first : 1 ≤ length ts → T (isTerm L (getD B i 0))
 
-  places-read : (w i : ℕ) (ts : List Term) (R : List ℕ) → length ts ≤ w → ((t : Term) → t ∈ ts → TermFits L t)
+  pub places-read : (w i : ℕ) (ts : List Term) (R : List ℕ) → length ts ≤ w → ((t : Term) → t ∈ ts → TermFits L t)
       → drop i B ≡ placesBytes w ts ++ R → Read i w ts R
   unfolding argsAt usedFirst
   places-read zero i [] R le fits e =
@@ -143,13 +143,13 @@ module _ (L : Layout) (ap-L : TellsApart L) (B : List ℕ) where
 
   atom-read : (i : ℕ) (a : Atom) (R : List ℕ) → AtomFits L a → drop i B ≡ atomBytes L a ++ R
       → (atomAt L B i ≡ a) × T (isAtom L B i) × (drop (i + size L) B ≡ R)
-  unfolding atomAt isAtom atomBytes
+  unfolding atomAt isAtom arePlaces atomBytes
   atom-read i a R fits e =
       let f = drop-front B i (a .rel) (placesBytes (L .places) (a .args) ++ R) e in
       let r = places-read (L .places) (i + 1) (a .args) R (fits .places) (fits .terms) (f .1) in
       let past : i + size L ≡ i + 1 + L .places = omega arith in (
         atom-path (f .0) (r .terms),
-        both (ltb (getD B i 0) (L .relations)) _ (lt→ltb (getD B i 0) (L .relations) (rw (f .0) (fits .relation)))
+        both (isRelation L (getD B i 0)) _ (subst (λ b. T (isRelation L b)) (sym (f .0)) (fits .relation))
             (both (isTerm L (getD B (i + 1) 0)) _ (r .first (fits .some-place)) (r .sound)),
         ap (λ n. drop n B) past ∙ r .rest,
       )
@@ -165,20 +165,6 @@ module _ (L : Layout) (ap-L : TellsApart L) (B : List ℕ) where
       let r = atoms-read (i + size L) A R (λ b m. fits b (List·Memᴰ·tail m)) (f .2) in
       (ap₂ _∷_ (f .0) (r .0), both (isAtom L B i) _ (f .1) (r .1))
 
-pub record-round : (L : Layout) → TellsApart L → (A : Question) → Fits L A → recordOf L (recordBytes L A) ≡ some A
-unfolding recordBytes questionOf
-record-round L ap-L A fits = record-of L B good ∙ ap some (r .0)
-  where
-    B : List ℕ
-    B = recordBytes L A
-
-    r : (atomsAt L B 1 (length A) ≡ A) × T (areAtoms L B 1 (length A))
-    r = atoms-read L ap-L B 1 A [] (fits .each) (sym (append-nil (gather (atomBytes L) A)))
-
-    good : isRecord L B ≡ true
-    good =
-        record-fits L B (fits .some-atom) (fits .most) (record-long L A) ∙ T→true _ (r .1)
-
 -- From bytes to a question and back.
 no-atoms : (s : ℕ) → 0 ≡ 0 * s
 no-atoms s = omega arith
@@ -188,7 +174,7 @@ one-more n s = omega arith
 
 module _ (L : Layout) (ap-L : TellsApart L) (B : List ℕ) where
   -- a place more
-  front : (i : ℕ) → i < length B → drop i B ≡ getD B i 0 ∷ drop (i + 1) B
+  pub front : (i : ℕ) → i < length B → drop i B ≡ getD B i 0 ∷ drop (i + 1) B
   front i h = drop-cons B i 0 h ∙ ap (λ n. getD B i 0 ∷ drop n B) (sym (add-one i))
 
   unused-back : (w i : ℕ) → i + w ≤ length B → T (unused B i w) → placesBytes w [] ≡ take w (drop i B)
@@ -234,28 +220,3 @@ module _ (L : Layout) (ap-L : TellsApart L) (B : List ℕ) where
       ∙ ap (take (n * size L)) (sym (drop-drop (size L) i B)))
       ∙ sym (take-add (size L) (n * size L) (drop i B))
       ∙ ap (λ m. take m (drop i B)) (one-more n (size L))
-
-pub bytes-round : (L : Layout) → TellsApart L → (B : List ℕ) (A : Question) → recordOf L B ≡ some A
-    → recordBytes L A ≡ B
-unfolding recordBytes questionOf
-bytes-round L ap-L B A e = go (either (isRecord L B))
-  where
-    n : ℕ
-    n = getD B 0 0
-
-    whole : SoundRecord L B → length B ≡ 1 + n * size L → recordBytes L (questionOf L B) ≡ B
-    whole s len =
-        ap₂
-        _∷_
-        (count-atoms L B n 1)
-        (atoms-back L ap-L B n 1 (s .fits) (s .atoms) ∙ take-all (n * size L) (drop 1 B) all)
-        ∙ sym (front L ap-L B 0 (omega (arith, s .fits)))
-      where
-        all : length (drop 1 B) ≤ n * size L
-        all = rw (length-drop 1 B) (omega (arith, len))
-
-    go : (isRecord L B ≡ true) ⊎ (isRecord L B ≡ false) → recordBytes L A ≡ B
-    go (inl t) =
-        let is = Option·some-injective (questionOf L B) A (sym (record-of L B t) ∙ e) in
-        ap (recordBytes L) (sym is) ∙ whole (record-sound L B (true→T _ t)) (record-length L B (true→T _ t))
-    go (inr f) = absurd (none≢some (sym (no-record L B f) ∙ e))

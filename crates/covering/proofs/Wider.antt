@@ -3,20 +3,23 @@ use mathlib.Core.Path.{_≡_, refl, _∙_, ap, ap₂, subst}
 use mathlib.Core.Bool.{Bool, true, false, cond, _&&_, _||_}
 use mathlib.Core.Logic.{_⊎_, inl, inr}
 use mathlib.Core.List.{List, [], _∷_, _++_}
-use Prim.Native.Nat.{ℕ, zero, suc, _+_, _-_, _≤_}
+use Prim.Native.Nat.{ℕ, zero, suc, _+_, _≤_}
 use native.Mathlib.Omega.{arith}
 use lib.Dec.{T, eqb, ltb, leb, ltb→lt, lt→ltb, eqb→eq}
 use lib.ListN.{length, getD}
 use Rattle.covering.specs.Lists.{gather}
 use Rattle.covering.specs.Term.{Term, var, con, Atom, Question}
+use Rattle.covering.specs.Asking.{answerRelation}
 use Rattle.covering.specs.Record.{Layout, size, atomAt, atomsAt, isTerm, unused, usedFirst, isAtom, areAtoms}
-use Rattle.covering.specs.Record.{placesBytes, atomBytes, recordBytes, TermFits, AtomFits, Fits}
+use Rattle.covering.specs.Record.{placesBytes, atomBytes, recordBytes, TermFits, AtomFits, Fits, isRelation}
+use Rattle.covering.specs.Record.{arePlaces}
 use Rattle.covering.proofs.Tests.{both, fst-of, snd-of, or-cases, or-left, or-right}
 use Rattle.covering.proofs.RoundTrip.{TellsApart}
 use Rattle.covering.proofs.Fitting.{term-is-used}
 
 pub record Wider (L M : Layout) : Type 0 where
   pub relations : L .relations ≤ M .relations
+  pub answers : T (L .answers) → T (M .answers)
   pub places : L .places ≡ M .places
   pub variables : L .variables ≤ M .variables
   pub constants : L .constants ≤ M .constants
@@ -40,7 +43,7 @@ module _ (L M : Layout) (w : Wider L M) where
   unfolding atomBytes
   atom-written a = ap (λ (p : ℕ). a .rel ∷ placesBytes p (a .args)) (w .places)
 
-  atoms-written : (A : Question) → gather (atomBytes L) A ≡ gather (atomBytes M) A
+  pub atoms-written : (A : Question) → gather (atomBytes L) A ≡ gather (atomBytes M) A
   atoms-written [] = refl
   atoms-written (a ∷ A) = ap₂ _++_ (atom-written a) (atoms-written A)
 
@@ -53,10 +56,23 @@ module _ (L M : Layout) (w : Wider L M) where
   term-fits-wider (var n) h = omega (arith, w .variables)
   term-fits-wider (con c) h = omega (arith, w .constants)
 
+  relation-wider : (b : ℕ) → T (isRelation L b) → T (isRelation M b)
+  unfolding isRelation
+  relation-wider b t = go (or-cases (ltb b (L .relations)) (L .answers && eqb b answerRelation) t)
+    where
+      go : T (ltb b (L .relations)) ⊎ T (L .answers && eqb b answerRelation)
+          → T (ltb b (M .relations) || (M .answers && eqb b answerRelation))
+      go (inl h) =
+          let lt = ltb→lt b (L .relations) h in
+          or-left (ltb b (M .relations)) _ (lt→ltb b (M .relations) (omega (arith, w .relations)))
+      go (inr h) =
+          or-right (ltb b (M .relations)) _
+          (both (M .answers) _ (w .answers (fst-of (L .answers) _ h)) (snd-of (L .answers) _ h))
+
   pub atom-fits-wider : {a : Atom} → AtomFits L a → AtomFits M a
   atom-fits-wider f =
       record {
-        relation = omega (arith, f .relation, w .relations);
+        relation = relation-wider _ (f .relation);
         some-place = f .some-place;
         places = omega (arith, f .places, w .places);
         terms = λ t x. term-fits-wider t (f .terms t x);
@@ -65,7 +81,6 @@ module _ (L M : Layout) (w : Wider L M) where
   pub fits-wider : {A : Question} → L .atoms ≤ M .atoms → Fits L A → Fits M A
   fits-wider h f =
       record {
-        some-atom = f .some-atom;
         most = omega (arith, f .most);
         each = λ a m. atom-fits-wider (f .each a m);
       }
@@ -105,16 +120,17 @@ module _ (L M : Layout) (w : Wider L M) where
         go false over true stop u below e = absurd (stop tt (eqb→eq b 255 (fst-of (eqb b 255) _ u)))
         go false over false stop u below e = u
 
+    pub places-wider : (i : ℕ) → T (arePlaces L B i) → T (arePlaces M B i)
+    unfolding arePlaces
+    places-wider i t =
+        both (isTerm M (getD B i 0)) _ (term-wider (getD B i 0) (fst-of (isTerm L (getD B i 0)) _ t))
+        (subst (λ p. T (usedFirst M B i p)) (w .places) (used-wider (L .places) i (snd-of (isTerm L (getD B i 0)) _ t)))
+
     pub atom-wider : (i : ℕ) → T (isAtom L B i) → T (isAtom M B i)
     unfolding isAtom
     atom-wider i t =
-        let rel = fst-of (ltb (getD B i 0) (L .relations)) _ t in
-        let rest = snd-of (ltb (getD B i 0) (L .relations)) _ t in
-        let lt = ltb→lt (getD B i 0) (L .relations) rel in
-        both (ltb (getD B i 0) (M .relations)) _ (lt→ltb (getD B i 0) (M .relations) (omega (arith, w .relations)))
-        (both (isTerm M (getD B (i + 1) 0)) _ (term-wider (getD B (i + 1) 0) (fst-of (isTerm L (getD B (i + 1) 0)) _ rest))
-        (subst (λ p. T (usedFirst M B (i + 1) p)) (w .places)
-        (used-wider (L .places) (i + 1) (snd-of (isTerm L (getD B (i + 1) 0)) _ rest))))
+        both (isRelation M (getD B i 0)) _ (relation-wider (getD B i 0) (fst-of (isRelation L (getD B i 0)) _ t))
+        (places-wider (i + 1) (snd-of (isRelation L (getD B i 0)) _ t))
 
     pub atoms-wider : (n i : ℕ) → T (areAtoms L B i n) → T (areAtoms M B i n)
     unfolding areAtoms

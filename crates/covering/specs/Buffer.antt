@@ -7,6 +7,10 @@ use lib.ListN.{length, getD, replicate}
 use Rattle.covering.specs.Term.{Question}
 use Rattle.covering.specs.Record.{Layout, size, isAtom, areAtoms, questionOf, recordBytes, width}
 
+-- the bytes in which the code holds a record: the layout with records fills them
+abbrev pub recordRoom : ℕ
+recordRoom = 61
+
 -- n sound atoms from i on, within the bytes
 pub record AtomsIn (L : Layout) (B : List ℕ) (i n : ℕ) : Type 0 where
   pub fits : i + n * size L ≤ length B

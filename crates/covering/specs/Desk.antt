@@ -1,19 +1,26 @@
 -- The search desk's two operations (01, "The search desk's covering").
 use mathlib.Core.Path.{_≡_}
-use mathlib.Core.Bool.{cond}
+use mathlib.Core.Bool.{Bool, cond, _&&_}
 use mathlib.Core.List.{List, []}
 use mathlib.Core.Option.{Option, none, some}
 use Prim.Native.Nat.{ℕ}
+use lib.Dec.{eqb}
+use lib.ListN.{length}
 use denote.Ref.{RefT, now, ptr}
-use Rattle.covering.specs.Term.{Question}
+use Rattle.covering.specs.Asking.{Asking, joined}
 use Rattle.covering.specs.Search.{covers}
 use Rattle.covering.specs.Record.{Layout, recordOf}
 
+-- Whether one covers the other (`CoversAsking`, `proofs/AnsweredCovers`). Conjunctions do not tell that "only one does",
+-- have answer places: p(v0) covers a(c0) p(c0) as they do; so this is a test of its own.
+abbrev pub coversAsking : Asking → Asking → Bool
+coversAsking p q = eqb (length (p .answer)) (length (q .answer)) && covers (joined p) (joined q)
+
 -- "0 no, 1 yes, 2 first malformed, 3 second malformed; 2 wins"
-abbrev pub coversNumber : Option Question → Option Question → ℕ
+abbrev pub coversNumber : Option Asking → Option Asking → ℕ
 coversNumber none b = 2
-coversNumber (some A) none = 3
-coversNumber (some A) (some B) = cond (covers A B) 1 0
+coversNumber (some p) none = 3
+coversNumber (some p) (some q) = cond (coversAsking p q) 1 0
 
 -- "It takes two member records and answers if the first covers the second"
 unfoldable pub coversAnswer : Layout → List ℕ → List ℕ → ℕ
@@ -27,10 +34,10 @@ pub data Chosen : Type 0 where
 
 -- "the covering one is handed back ..  Equivalent records give the first. Malformed or incomparable ones give the
 -- empty part"
-abbrev pub which : Option Question → Option Question → Chosen
+abbrev pub which : Option Asking → Option Asking → Chosen
 which none b = neither
-which (some A) none = neither
-which (some A) (some B) = cond (covers A B) the-first (cond (covers B A) the-second neither)
+which (some p) none = neither
+which (some p) (some q) = cond (coversAsking p q) the-first (cond (coversAsking q p) the-second neither)
 
 abbrev pub keptBytes : Chosen → List ℕ → List ℕ → List ℕ
 keptBytes the-first a b = a

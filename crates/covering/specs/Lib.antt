@@ -3,6 +3,7 @@
 pub mod Lists
 pub mod Term
 pub mod Rule
+pub mod Asking
 pub mod Covers
 pub mod Search
 pub mod Form

@@ -1,7 +1,8 @@
 -- The member record: how a question stands in bytes (01, "Stored book", "Union as written", "The search desk's
 -- covering"). "one count byte and its atoms, five bytes each"; "An atom is five bytes: relation number .., then four
--- places." The five and the four are a layout's numbers here, so that another width is another layout.
-use mathlib.Core.Bool.{Bool, true, cond, _&&_, _||_}
+-- places." The five and the four are a layout's numbers here, so that another width is another layout. With answer
+-- places (02, a) the answer record stands after the count byte, uncounted.
+use mathlib.Core.Bool.{Bool, true, false, cond, _&&_, _||_}
 use mathlib.Core.List.{List, [], _∷_}
 use mathlib.Core.Option.{Option, none, some}
 use Prim.Native.Nat.{ℕ, zero, suc, _+_, _*_, _-_, _≤_, _<_}
@@ -9,18 +10,24 @@ use lib.Dec.{T, eqb, ltb, leb}
 use lib.ListN.{length, getD}
 use Rattle.covering.specs.Lists.{_∈_, gather}
 use Rattle.covering.specs.Term.{Term, var, con, Atom, Question}
+use Rattle.covering.specs.Asking.{Asking, answerRelation, joined}
 
--- what a record keeps to
+-- what a record keeps to; an atom of it may be an answer record, or may not
 pub record Layout : Type 0 where
   pub atoms : ℕ
   pub relations : ℕ
+  pub answers : Bool
   pub places : ℕ
   pub variables : ℕ
   pub constants : ℕ
 
 -- "A record has 1 to 11 atoms .., relations 0 to 63, first one to four places used with 0 to 63 or 128 to 254"
 abbrev pub desk : Layout
-desk = record { atoms = 11; relations = 64; places = 4; variables = 64; constants = 127 }
+desk = record { atoms = 11; relations = 64; answers = false; places = 4; variables = 64; constants = 127 }
+
+-- what all our bytes keep to: the same with the answer record as an atom, the first of twelve
+abbrev pub stored : Layout
+stored = record { atoms = 12; relations = 64; answers = true; places = 4; variables = 64; constants = 127 }
 
 -- an atom's bytes: its relation number and its places
 abbrev pub size : Layout → ℕ
@@ -47,9 +54,24 @@ unfoldable pub atomsAt : Layout → List ℕ → ℕ → ℕ → Question
 atomsAt L B i zero = []
 atomsAt L B i (suc n) = atomAt L B i ∷ atomsAt L B (i + size L) n
 
--- the question that a record holds
+-- the atoms that a record counts, from its count byte on
 unfoldable pub questionOf : Layout → List ℕ → Question
 questionOf L B = atomsAt L B 1 (getD B 0 0)
+
+-- "A leading record with relation byte 255": whether a record has one, and how many
+unfoldable pub hasAnswer : List ℕ → Bool
+hasAnswer B = eqb (getD B 1 0) answerRelation
+
+abbrev pub answers : List ℕ → ℕ
+answers B = cond (hasAnswer B) 1 0
+
+-- the question that a record holds: "Members carry it uncounted after the count byte"
+unfoldable pub askingOf : Layout → List ℕ → Asking
+askingOf L B =
+    record {
+      answer = cond (hasAnswer B) (argsAt B 2 (L .places)) [];
+      atoms = atomsAt L B (1 + answers B * size L) (getD B 0 0);
+    }
 
 -- "used with 0 to 63 or 128 to 254"
 unfoldable pub isTerm : Layout → ℕ → Bool
@@ -65,27 +87,36 @@ unfoldable pub usedFirst : Layout → List ℕ → ℕ → ℕ → Bool
 usedFirst L B i zero = true
 usedFirst L B i (suc w) = cond (isTerm L (getD B i 0)) (usedFirst L B (i + 1) w) (unused B i (suc w))
 
--- "relations 0 to 63, first one to four places used .., the rest 255"
+-- "first one to four places used .., the rest 255"
+unfoldable pub arePlaces : Layout → List ℕ → ℕ → Bool
+arePlaces L B i = isTerm L (getD B i 0) && usedFirst L B i (L .places)
+
+-- "relations 0 to 63", and 255 where the layout has answer records
+unfoldable pub isRelation : Layout → ℕ → Bool
+isRelation L b = ltb b (L .relations) || (L .answers && eqb b answerRelation)
+
 unfoldable pub isAtom : Layout → List ℕ → ℕ → Bool
-isAtom L B i = ltb (getD B i 0) (L .relations) && (isTerm L (getD B (i + 1) 0) && usedFirst L B (i + 1) (L .places))
+isAtom L B i = isRelation L (getD B i 0) && arePlaces L B (i + 1)
 
 unfoldable pub areAtoms : Layout → List ℕ → ℕ → ℕ → Bool
 areAtoms L B i zero = true
 areAtoms L B i (suc n) = isAtom L B i && areAtoms L B (i + size L) n
 
--- "A record has 1 to 11 atoms and exactly fitting length"
+-- "A record has .. to 11 atoms and exactly fitting length"; "The desk's records run 0 to 11" (02, c); "Desk records may
+-- too" have an answer record (02, a): "used places first and at least one used"
 unfoldable pub isRecord : Layout → List ℕ → Bool
 isRecord L B =
     let n = getD B 0 0 in
-    (leb 1 n && leb n (L .atoms)) && (eqb (length B) (width L n) && areAtoms L B 1 n)
+    let places = cond (hasAnswer B) (arePlaces L B 2) true in
+    leb n (L .atoms)
+    && (eqb (length B) (width L (answers B + n)) && (places && areAtoms L B (1 + answers B * size L) n))
 
 -- the question of a record, none if it is malformed
-unfoldable pub recordOf : Layout → List ℕ → Option Question
-recordOf L B = cond (isRecord L B) (some (questionOf L B)) none
+unfoldable pub recordOf : Layout → List ℕ → Option Asking
+recordOf L B = cond (isRecord L B) (some (askingOf L B)) none
 
 -- what is known of a sound record that a buffer begins with: it may go on after the record
 pub record SoundRecord (L : Layout) (B : List ℕ) : Type 0 where
-  pub some-atom : 1 ≤ getD B 0 0
   pub most : getD B 0 0 ≤ L .atoms
   pub fits : width L (getD B 0 0) ≤ length B
   pub atoms : T (areAtoms L B 1 (getD B 0 0))
@@ -104,8 +135,13 @@ placesBytes (suc w) (t ∷ ts) = byteOf t ∷ placesBytes w ts
 unfoldable pub atomBytes : Layout → Atom → List ℕ
 atomBytes L a = a .rel ∷ placesBytes (L .places) (a .args)
 
+-- a record that counts all its atoms
 unfoldable pub recordBytes : Layout → Question → List ℕ
 recordBytes L A = length A ∷ gather (atomBytes L) A
+
+-- a record with its answer record, if it has one, "uncounted after the count byte"
+unfoldable pub askingBytes : Layout → Asking → List ℕ
+askingBytes L q = length (q .atoms) ∷ gather (atomBytes L) (joined q)
 
 -- a question that a record can hold
 abbrev pub TermFits : Layout → Term → Type 0
@@ -113,12 +149,17 @@ TermFits L (var n) = n < L .variables
 TermFits L (con c) = c < L .constants
 
 pub record AtomFits (L : Layout) (a : Atom) : Type 0 where
-  pub relation : a .rel < L .relations
+  pub relation : T (isRelation L (a .rel))
   pub some-place : 1 ≤ length (a .args)
   pub places : length (a .args) ≤ L .places
   pub terms : (t : Term) → t ∈ a .args → TermFits L t
 
 pub record Fits (L : Layout) (A : Question) : Type 0 where
-  pub some-atom : 1 ≤ length A
   pub most : length A ≤ L .atoms
   pub each : (a : Atom) → a ∈ A → AtomFits L a
+
+-- a question with or without answer places that a record can hold
+pub record AskingFits (L : Layout) (q : Asking) : Type 0 where
+  pub atoms : Fits L (q .atoms)
+  pub places : length (q .answer) ≤ L .places
+  pub terms : (t : Term) → t ∈ q .answer → TermFits L t

@@ -6,11 +6,14 @@ use Prim.Native.Nat.{ℕ}
 use lib.ListN.{length, take, length-replicate}
 use Rattle.covering.specs.Search.{covers, firstMap, findMap}
 use Rattle.covering.specs.Form.{form}
-use Rattle.covering.specs.Record.{termOf, argsAt, atomAt, atomsAt, atomBytes, recordBytes}
+use Rattle.covering.specs.Record.{termOf, argsAt, atomAt, atomsAt, atomBytes, askingBytes}
 use Rattle.reading.specs.Word.{word}
-use Rattle.reading.specs.Book.{ruleAt, rulesFrom, after, bookOf}
+use Rattle.reading.specs.Header.{announced}
+use Rattle.reading.specs.Book.{ruleAt, rulesFrom, after, questionIn, bookOf}
+use Rattle.reading.specs.Refusals.{usedPlaces}
 use Rattle.reading.specs.Verdict.{inTable, offsetsRight, wrongPlaces, ruleRight, wrongRule, wrongPlace, wrongInAtom}
-use Rattle.reading.specs.Verdict.{wrongInAtoms, wrongInRules, wrongByte, contents, verdict}
+use Rattle.reading.specs.Verdict.{wrongInAtoms, wrongInRules, wrongAnswer, wrongInQuestion, wrongByte, looseFrom}
+use Rattle.reading.specs.Verdict.{looseVariable, contents, verdict}
 use Rattle.unification.specs.Step.{step, listed, rewritings}
 use Rattle.exploration.specs.Run.{admit, through, exploring, runBy, run}
 use Rattle.exploration.specs.Union.{total, unionBytes}
@@ -24,11 +27,11 @@ examples-hold = (ok, (ok, (ok, (ok, (ok, (ok, (ok, (ok, (ok, (ok, (ok, (ok, (ok,
 
 pub more-examples-hold : Each Right more-examples
 unfolding more-examples covers firstMap findMap form step listed rewritings admit through exploring runBy run
-    termOf argsAt atomAt atomsAt atomBytes recordBytes word ruleAt rulesFrom after bookOf
-    inTable offsetsRight wrongPlaces ruleRight wrongRule wrongPlace wrongInAtom wrongInAtoms wrongInRules wrongByte
-    contents verdict total unionBytes result
+    termOf argsAt atomAt atomsAt atomBytes askingBytes word announced ruleAt rulesFrom after questionIn bookOf
+    inTable offsetsRight wrongPlaces ruleRight wrongRule wrongPlace wrongInAtom wrongInAtoms wrongInRules usedPlaces
+    wrongAnswer wrongInQuestion wrongByte looseFrom looseVariable contents verdict total unionBytes result
 more-examples-hold =
-    (ok, (ok, (ok, (ok, (ok, (ok, (ok, (ok, (ok, (ok, (ok, (ok, (ok, (ok, (ok, (ok, (ok, (ok, tt))))))))))))))))))
+    (ok, (ok, (ok, (ok, (ok, (ok, (ok, (ok, (ok, (ok, (ok, (ok, (ok, (ok, (ok, (ok, (ok, (ok, (ok, (ok, (ok, (ok, (ok, (ok, tt))))))))))))))))))))))))
 
 pub contract-gives : (e : BookExample) → Right (answering e) → {n p : ℕ} {after : List ℕ}
     → Answers (e .book) (outputOf e) n p after → ((n, p) ≡ e .answer) × (take (length (e .bytes)) after ≡ e .bytes)

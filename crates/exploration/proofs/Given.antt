@@ -14,9 +14,9 @@ use Rattle.exploration.specs.Run.{complete}
 use Rattle.exploration.specs.Union.{outputSize, total, unionBytes, membersOf, exploredOf}
 use Rattle.exploration.specs.Answer.{Result, union, refusal, outcomeOf, result, answer, written, answerOf}
 use Rattle.exploration.specs.Answer.{writtenOf, Answers}
-use Rattle.exploration.specs.Refusals.{Refuses, Completes}
-use Rattle.exploration.proofs.OfBook.{Member, whole, members-most, desk-fits}
-use Rattle.exploration.proofs.UnionBytes.{union-length, total-most, explored-read, union-round}
+use Rattle.exploration.specs.Refusals.{Refuses, Completes, answersOf}
+use Rattle.exploration.proofs.OfBook.{Member, whole, members-most, written-member, member-few}
+use Rattle.exploration.proofs.UnionBytes.{union-length, total-most, explored-read, union-round, Written}
 use Rattle.exploration.proofs.Refused.{refuses-exactly, completes-exactly, refuses-from, ran-union}
 
 module _ {book out : List ℕ} {number place : ℕ} {after : List ℕ} (given : Answers book out number place after) where
@@ -97,22 +97,28 @@ module _ {book out : List ℕ} {number place : ℕ} {after : List ℕ} (given : 
     pub kind : (M : Question) → M ∈ whole-given .members → Member book M
     kind M m = whole book (whole-given .sound) (whole-given .ran) .good M m
 
-    pub members-are : membersOf after ≡ whole-given .members
+    -- as it is written
+    pub member-written : (M : Question) → M ∈ whole-given .members → Written (answersOf book) M
+    member-written M m = written-member book (whole-given .sound) (kind M m)
+
+    pub members-are : membersOf (answersOf book) after ≡ whole-given .members
     members-are =
-        ap membersOf bytes-are
-        ∙ union-round U (whole-given .explored) (drop (total U) out) (λ M m. desk-fits book (whole-given .sound) (kind M m .fits))
+        ap (membersOf (answersOf book)) bytes-are
+        ∙ union-round (answersOf book) U (whole-given .explored) (drop (total U) out) member-written
 
     pub explored-is : exploredOf after ≡ whole-given .explored
-    explored-is = ap exploredOf bytes-are ∙ explored-read U (whole-given .explored) (drop (total U) out)
+    explored-is = ap exploredOf bytes-are ∙ explored-read (answersOf book) U (whole-given .explored) (drop (total U) out)
 
     -- "0 means complete, and the place is the total length written."
-    pub the-place : place ≡ total (membersOf after)
+    pub the-place : place ≡ total (membersOf (answersOf book) after)
     the-place = total-is ∙ ap total (sym members-are)
 
-    -- "It takes at most .. 2,632 bytes."
+    -- "Output room is 2,952 for all"
     pub place-most : place ≤ outputSize
     place-most =
-        let h = total-most U (members-most book (whole-given .sound) (whole-given .ran)) (λ M m. kind M m .fits .most) in
+        let h =
+        total-most (answersOf book) U member-written (members-most book (whole-given .sound) (whole-given .ran))
+        (λ M m. member-few book (whole-given .sound) (kind M m)) in
         omega (arith, total-is)
 
     pub output-roomy : outputSize ≤ length out
@@ -127,14 +133,14 @@ module _ {book out : List ℕ} {number place : ℕ} {after : List ℕ} (given : 
         ∙ ap (λ (n : ℕ). drop n out) (sym total-is)
 
     -- the bytes written say the run's members and its count of explored questions, computed and in single steps
-    pub the-outcome : outcomeOf book ≡ complete (membersOf after) (exploredOf after)
+    pub the-outcome : outcomeOf book ≡ complete (membersOf (answersOf book) after) (exploredOf after)
     the-outcome = whole-given .ran ∙ ap₂ complete (sym members-are) (sym explored-is)
 
-    pub the-run : Completes book (length out) (membersOf after) (exploredOf after)
+    pub the-run : Completes book (length out) (membersOf (answersOf book) after) (exploredOf after)
     the-run =
         completes-exactly book (length out) _ _ .0 (whole-given .is ∙ ap₂ union (sym members-are) (sym explored-is))
 
-    pub the-bytes : take place after ≡ unionBytes (membersOf after) (exploredOf after)
+    pub the-bytes : take place after ≡ unionBytes (membersOf (answersOf book) after) (exploredOf after)
     the-bytes =
         ap (take place) bytes-are
         ∙ take-at (unionBytes U (whole-given .explored)) (drop (total U) out) place
@@ -167,7 +173,7 @@ module _ {book out : List ℕ} {number place : ℕ} {after : List ℕ} (given : 
 
   -- whenever the run completes, its members and its count are given
   pub every-run : {U : List Question} {k : ℕ} → Completes book (length out) U k
-      → (number ≡ 0) × (membersOf after ≡ U) × (exploredOf after ≡ k)
+      → (number ≡ 0) × (membersOf (answersOf book) after ≡ U) × (exploredOf after ≡ k)
   every-run {U} {k} c =
       let zero = complete-exactly .1 (U, k, c) in
       let is = completes-exactly book (length out) U k .1 c in

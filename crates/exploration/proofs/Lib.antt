@@ -13,12 +13,17 @@ pub mod Invariant
 pub mod Covered
 pub mod Left
 pub mod Raised
--- demand 3 over lists, and the run of a sound book
+-- demand 3 over lists, and for each row; the run of a sound book
 pub mod Derived
+pub mod RowFacts
+pub mod BesideRow
+pub mod RowsOf
+pub mod RowExample
 pub mod OfBook
 -- how a question that is taken up is rewritten
 pub mod Explored
 -- the union as bytes
+pub mod HeldBytes
 pub mod UnionBytes
 pub mod Members
 pub mod Standing

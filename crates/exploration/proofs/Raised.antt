@@ -4,9 +4,10 @@ use mathlib.Core.List.{List}
 use Prim.Native.Nat.{ℕ, _≤_}
 use native.Mathlib.Omega.{arith}
 use Rattle.covering.specs.Term.{Question}
+use Rattle.covering.specs.Asking.{Asking, joined, records}
 use Rattle.covering.specs.Search.{covers}
 use Rattle.covering.specs.Rule.{Rule}
-use Rattle.exploration.specs.Run.{Test, Limits, limits, complete, allRewritings, runBy, run}
+use Rattle.exploration.specs.Run.{Test, Limits, limitsFor, complete, allRewritings, runBy, run}
 use Rattle.exploration.specs.Steps.{Position, Reaches, begins, takes-up, drops, appends, stops, finishes}
 use Rattle.exploration.specs.Steps.{Ends, completes}
 use Rattle.exploration.proofs.Ends.{run-ends, ends-only}
@@ -34,7 +35,8 @@ module _ (cov : Test) (lim : Limits) (steps : Question → List Question) (Q : Q
         (more-ends (subst (Ends cov lim steps less Q) e (run-ends cov lim steps less Q)))
 
 -- the same of a book's run
-pub run-raised : (rules : List Rule) (Q : Question) {less more : ℕ} → less ≤ more → {U : List Question} {n : ℕ}
-    → run rules less Q ≡ complete U n → run rules more Q ≡ complete U n
+pub run-raised : (rules : List Rule) (q : Asking) {less more : ℕ} → less ≤ more → {U : List Question} {n : ℕ}
+    → run rules less q ≡ complete U n → run rules more q ≡ complete U n
 unfolding run
-run-raised rules Q {less} {more} l e = raising-keeps covers limits (allRewritings rules) Q less more l e
+run-raised rules q {less} {more} l e =
+    raising-keeps covers (limitsFor (records (q .answer))) (allRewritings rules) (joined q) less more l e

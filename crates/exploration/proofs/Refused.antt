@@ -11,18 +11,20 @@ use lib.Dec.{T, eqb, ltb, ltb→lt, nltb→le, eqb→eq}
 use borrow.Author.Tests.{eq-eqb}
 use Rattle.covering.specs.Term.{Question}
 use Rattle.covering.specs.Search.{covers}
+use Rattle.covering.specs.Asking.{joined}
 use Rattle.covering.proofs.Tests.{decide, clash, cond-yes, cond-no}
 use Rattle.reading.specs.Book.{bookOf}
 use Rattle.reading.specs.Refusals.{ApplicableToBook}
 use Rattle.reading.specs.Verdict.{NoLater, IsVerdict, sound, refused as refused-book, verdict, SoundBook}
 use Rattle.reading.proofs.Exact.{verdict-exact, number-from}
 use Rattle.reading.proofs.SoundBook.{sound-none}
-use Rattle.exploration.specs.Run.{limits, Why, too-long, no-room, none-left, refusalNumber, Outcome, complete}
+use Rattle.exploration.specs.Run.{Why, too-long, no-room, none-left, refusalNumber, Outcome, complete}
 use Rattle.exploration.specs.Run.{refused}
 use Rattle.exploration.specs.Run.{allRewritings}
 use Rattle.exploration.specs.Union.{outputSize}
 use Rattle.exploration.specs.Answer.{Result, union, refusal, resultOf, outcomeOf, result}
 use Rattle.exploration.specs.Refusals.{one, of-book, RunEnds, Refuses, smallest, met, Completes, Applicable}
+use Rattle.exploration.specs.Refusals.{limitsOf}
 use Rattle.exploration.proofs.Ends.{run-ends, ends-only}
 use Rattle.exploration.proofs.OfBook.{run-is}
 
@@ -31,12 +33,12 @@ module _ (B : List ℕ) where
   pub outcome-ends : RunEnds B (outcomeOf B)
   outcome-ends =
       subst (RunEnds B) (sym (run-is (bookOf B .rules) (bookOf B .allowed) (bookOf B .question)))
-      (run-ends covers limits (allRewritings (bookOf B .rules)) (bookOf B .allowed) (bookOf B .question))
+      (run-ends covers (limitsOf B) (allRewritings (bookOf B .rules)) (bookOf B .allowed) (joined (bookOf B .question)))
 
   pub outcome-only : {o : Outcome} → RunEnds B o → outcomeOf B ≡ o
   outcome-only e =
       run-is (bookOf B .rules) (bookOf B .allowed) (bookOf B .question)
-      ∙ ends-only covers limits (allRewritings (bookOf B .rules)) (bookOf B .allowed) (bookOf B .question) e
+      ∙ ends-only covers (limitsOf B) (allRewritings (bookOf B .rules)) (bookOf B .allowed) (joined (bookOf B .question)) e
 
   -- a refused book
   verdict-refused : ¬ (SoundBook B) → ApplicableToBook B (verdict B .number) (verdict B .place)

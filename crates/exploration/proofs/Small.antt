@@ -1,44 +1,48 @@
--- The variables' bound, and that a record has room: a question in form of at most m atoms of at most p places has its
--- variables below m x p, and takes its relations, its numbers of places and its constants from the question and the
--- rules. So rewritings of a member of at most 8 atoms of at most 4 places are apart from rules moved up by 32, and a
--- rewriting of at most 11 atoms fits the desk's record. Assumes nothing.
-use mathlib.Core.Path.{_≡_, sym, subst}
+-- The variables' bound, and that a record has room: a question in form of at most m atoms of at most p places, whose
+-- answer variables stand in them, has its variables below m x p, and takes its relations, its numbers of places and its
+-- constants from the question and the rules. So rewritings of a member of at most 8 atoms of at most 4 places are apart
+-- from rules moved up by 32, and a rewriting of at most 11 atoms and an answer record fits a record. Assumes nothing.
+use mathlib.Core.Path.{_≡_, refl, sym, subst}
 use mathlib.Core.Logic.{_⊎_, inl, inr}
-use mathlib.Core.List.{_++_, List·Memᴰ·append-cases, Memᴰ·append-right, Memᴰ·map}
+use mathlib.Core.List.{_++_, List·Memᴰ·append-cases}
 use Prim.Native.Nat.{ℕ, _+_, _*_, _≤_, _<_}
 use native.Mathlib.Omega.{arith}
 use lib.ListN.{length}
+use lib.Dec.{T}
 use Rattle.covering.specs.Lists.{_∈_}
-use Rattle.covering.specs.Term.{Term, var, con, Atom, Question, on-atom, terms, Below}
+use Rattle.covering.specs.Term.{Term, var, con, Atom, Question, terms, Below}
 use Rattle.covering.specs.Form.{form}
-use Rattle.covering.specs.Record.{Layout, TermFits, AtomFits, Fits}
-use Rattle.covering.proofs.Lists.{in-some, first-in}
+use Rattle.covering.specs.Asking.{asking, NoRecord, Shaped}
+use Rattle.covering.specs.Record.{Layout, TermFits, AtomFits, Fits, isRelation}
 use Rattle.covering.proofs.Terms.{terms-in, terms-out}
-use Rattle.covering.proofs.Form.{form-equivalent}
 use Rattle.covering.specs.Rule.{Rule}
-use Rattle.unification.specs.Choice.{left}
-use Rattle.unification.specs.Step.{up, move, rewriting, rewritings}
+use Rattle.unification.specs.Step.{rewritings}
 use Rattle.unification.proofs.Listed.{Made, rewritings-out}
-use Rattle.unification.proofs.Sizes.{listed-form, listed-length, listed-shape, listed-constant}
-use Rattle.covering.proofs.FormSizes.{in-form-below}
+use Rattle.unification.proofs.Sizes.{listed-form, listed-shape, listed-constant}
+use Rattle.unification.proofs.ShapeKept.{rewriting-shaped}
+use Rattle.unification.proofs.AnswerSizes.{shaped-fewer, shaped-apart}
+use Rattle.covering.proofs.Shaped.{shaped-in}
+use Rattle.covering.proofs.Bytes.{relation-like}
 
--- the layout of questions of at most m atoms in form
-abbrev pub roomFor : Layout → ℕ → Layout
-roomFor L m =
+-- the layout of questions in form of at most m atoms, and so many answer records
+abbrev pub roomFor : Layout → ℕ → ℕ → Layout
+roomFor L answers m =
     record {
-      atoms = m;
+      atoms = m + answers;
       relations = L .relations;
+      answers = L .answers;
       places = L .places;
       variables = m * L .places;
       constants = L .constants;
     }
 
--- a rule whose atoms fit, and that has a body
+-- a rule whose atoms fit and are no answer records
 pub record RuleFits (L : Layout) (r : Rule) : Type 0 where
-  pub some-body : 1 ≤ length (r .body)
   pub few-body : length (r .body) ≤ 4
   pub body : (a : Atom) → a ∈ r .body → AtomFits L a
   pub head : (a : Atom) → a ∈ r .head → AtomFits L a
+  pub free-body : NoRecord (r .body)
+  pub free-head : NoRecord (r .head)
 
 module _ (L : Layout) where
   -- the bound that keeps rules apart
@@ -50,7 +54,7 @@ module _ (L : Layout) where
 
   -- what an atom takes from another: its relation and its number of places
   record Frame (a : Atom) : Type 0 where
-    relation : a .rel < L .relations
+    relation : T (isRelation L (a .rel))
     some-place : 1 ≤ length (a .args)
     places : length (a .args) ≤ L .places
 
@@ -60,75 +64,101 @@ module _ (L : Layout) where
   frame-like : {a b : Atom} → a .rel ≡ b .rel → length (a .args) ≡ length (b .args) → Frame b → Frame a
   frame-like e d f =
       record {
-        relation = subst (λ (n : ℕ). n < L .relations) (sym e) (f .relation);
+        relation = subst (λ (n : ℕ). T (isRelation L n)) (sym e) (f .relation);
         some-place = subst (λ (n : ℕ). 1 ≤ n) (sym d) (f .some-place);
         places = subst (λ (n : ℕ). n ≤ L .places) (sym d) (f .places);
       }
 
-  -- a question in form with such atoms and constants fits where there is room for its atoms
-  formed-fits : (m : ℕ) (P : Question) → form P ≡ P → 1 ≤ length P → length P ≤ m
-      → ((a : Atom) → a ∈ P → Frame a) → ((c : ℕ) → con c ∈ terms P → c < L .constants) → Fits (roomFor L m) P
-  formed-fits m P e some few frame constant =
+  -- a question with such atoms, constants and variables fits where there is room for its atoms
+  framed-fits : (answers m : ℕ) (P : Question) → length P ≤ m + answers
+      → ((a : Atom) → a ∈ P → Frame a) → ((c : ℕ) → con c ∈ terms P → c < L .constants) → Below (m * L .places) P
+      → Fits (roomFor L answers m) P
+  framed-fits answers m P few frame constant below =
       record {
-        some-atom = some;
         most = few;
         each =
             λ a x.
             let f = frame a x in
             record {
-              relation = f .relation;
+              relation = relation-like L (roomFor L answers m) (a .rel) refl refl (f .relation);
               some-place = f .some-place;
               places = f .places;
               terms = λ t y. term t (terms-in P x y);
             };
       }
     where
-      term : (t : Term) → t ∈ terms P → TermFits (roomFor L m) t
-      term (var n) y = in-form-below m (L .places) P e few (λ a x. frame a x .places) n y
+      term : (t : Term) → t ∈ terms P → TermFits (roomFor L answers m) t
+      term (var n) y = below n y
       term (con c) y = constant c y
 
-  -- a question with an atom has one in form
-  form-some : (A : Question) (a : Atom) → a ∈ A → 1 ≤ length (form A)
-  form-some A a m = in-some (form A) (form-equivalent A .0 .sends a m)
+  -- the same with room for v variables
+  abbrev pub withVariables : ℕ → ℕ → ℕ → Layout
+  withVariables answers m v =
+      record {
+        atoms = m + answers;
+        relations = L .relations;
+        answers = L .answers;
+        places = L .places;
+        variables = v;
+        constants = L .constants;
+      }
 
-  -- a rewriting of a member by a rule
-  module _ {cap : ℕ} {r : Rule} {M P : Question} (member : Fits (roomFor L cap) M) (fits : RuleFits L r)
+  -- what fits there fits where it has no other variables
+  pub narrowed-fits : (answers m v : ℕ) {A : Question} → Fits (withVariables answers m v) A → Below (m * L .places) A
+      → Fits (roomFor L answers m) A
+  narrowed-fits answers m v {A} f below =
+      record {
+        most = f .most;
+        each =
+            λ a x.
+            let e = f .each a x in
+            record {
+              relation =
+                  relation-like (withVariables answers m v) (roomFor L answers m) (a .rel) refl refl (e .relation);
+              some-place = e .some-place;
+              places = e .places;
+              terms = λ t y. term t (terms-in A x y) (e .terms t y);
+            };
+      }
+    where
+      term : (t : Term) → t ∈ terms A → TermFits (withVariables answers m v) t → TermFits (roomFor L answers m) t
+      term (var n) y h = below n y
+      term (con c) y h = h
+
+  -- a rewriting of a member by a rule; questions of this shape have so many answer records
+  module _ (answers cap : ℕ) {n : ℕ} {r : Rule} {M P : Question}
+      (count : (X : Question) → Shaped n X → length X ≡ answers + length (asking X .atoms))
+      (member : Fits (roomFor L answers cap) M) (shaped : Shaped n M) (fits : RuleFits L r)
       (x : P ∈ rewritings (cap * L .places) r M)
     where
       abbrev k : ℕ
       k = cap * L .places
 
-      made : (n : ℕ) × Made k r M n P
+      made : (i : ℕ) × Made k r M i P
       made = rewritings-out x
 
       below : Below k M
-      below n m = let y = terms-out M m in member .each (y .0) (y .1) .terms (var n) (y .2)
+      below i m = let y = terms-out M m in member .each (y .0) (y .1) .terms (var i) (y .2)
 
       pub rewriting-formed : form P ≡ P
       rewriting-formed = listed-form (made .1)
 
-      -- fewer atoms than the member and the body together: at most 11
-      pub rewriting-short : length P < cap + 4
-      rewriting-short =
-          let h = listed-length (made .1) in let b = member .most in let d = fits .few-body in omega arith
+      pub rewriting-of-shape : Shaped n P
+      rewriting-of-shape = rewriting-shaped (fits .free-body) (fits .free-head) below shaped x
 
-      rewriting-some : 1 ≤ length P
-      rewriting-some =
-          subst (λ (A : Question). 1 ≤ length A) (w .is)
-          (let b = first-in (r .body) (fits .some-body) in
-          form-some
-          (rewriting (w .classes) (left (w .choice) M) (move k r))
-          (on-atom (w .classes) (on-atom (up k) (b .0)))
-          (Memᴰ·map (on-atom (w .classes))
-          (Memᴰ·append-right (left (w .choice) M) (Memᴰ·map (on-atom (up k)) (b .1)))))
-        where
-          w : Made k r M (made .0) P
-          w = made .1
+      few-of-member : length (asking M .atoms) ≤ cap
+      few-of-member = omega (arith, count M shaped, member .most)
+
+      -- fewer atoms than the member and the body together: at most 11
+      pub rewriting-short : length (asking P .atoms) < cap + 4
+      rewriting-short =
+          omega (arith, shaped-fewer shaped rewriting-of-shape (made .1), few-of-member, fits .few-body)
 
       frame-either : (b : Atom) → (b ∈ M) ⊎ (b ∈ r .body) → Frame b
       frame-either b (inl y) =
           let f = member .each b y in
-          record { relation = f .relation; some-place = f .some-place; places = f .places }
+          let t = relation-like (roomFor L answers cap) L (b .rel) refl refl (f .relation) in
+          record { relation = t; some-place = f .some-place; places = f .places }
       frame-either b (inr y) = frame-of (fits .body b y)
 
       frame : (a : Atom) → a ∈ P → Frame a
@@ -147,5 +177,8 @@ module _ (L : Layout) where
           go (inl z) = let t = terms-out M z in member .each (t .0) (t .1) .terms (con c) (t .2)
           go (inr z) = at (List·Memᴰ·append-cases (terms (r .body)) z)
 
-      pub rewriting-fits : (m : ℕ) → length P ≤ m → Fits (roomFor L m) P
-      rewriting-fits m few = formed-fits m P rewriting-formed rewriting-some few frame constant
+      pub rewriting-fits : (m : ℕ) → length (asking P .atoms) ≤ m → Fits (roomFor L answers m) P
+      rewriting-fits m few =
+          framed-fits answers m P (omega (arith, count P rewriting-of-shape)) frame constant
+          (shaped-apart shaped rewriting-of-shape (made .1) m (L .places)
+          (λ a y. member .each a (shaped-in shaped y) .places) (λ a y. fits .body a y .places) few)

@@ -26,8 +26,8 @@ resultOf (refused w p) = refusal (refusalNumber w) p
 abbrev pub outcomeOf : List ℕ → Outcome
 outcomeOf B = run (bookOf B .rules) (bookOf B .allowed) (bookOf B .question)
 
--- "The smallest applicable number among 1 to 7 wins": 1, "output under 2,632 bytes", at place 0 and without looking at
--- the book; then 2 to 7; then the run
+-- "The smallest applicable number among 1 to 7 wins": 1, output under 2,952 bytes (02, a), at place 0 and without looking
+-- at the book; then the book's own, 2 to 7 and 11; then the run
 unfoldable pub result : List ℕ → ℕ → Result
 result B room =
     let ran = resultOf (outcomeOf B) in

@@ -48,7 +48,7 @@ given e =
 abbrev pub Right : Example → Type 0
 Right (covering A B r) = covers A B ≡ r
 Right (rewriting r Q l) = allRewritings (r ∷ []) Q ≡ l
-Right (running rules L Q o) = run rules L Q ≡ o
+Right (running rules L Q o) = run rules L (record { answer = []; atoms = Q }) ≡ o
 Right (limited lim rules L Q o) = runBy covers lim (allRewritings rules) L Q ≡ o
 Right (answering e) = given e ≡ (e .answer, e .bytes)
 
@@ -95,7 +95,7 @@ examples =
     ∷ running (example9 .rule ∷ []) 10 (example9 .question) (complete (example9 .question ∷ (at1 0 v0 ∷ []) ∷ []) 2)
     ∷ []
 
--- a book's answer with an output of 2,632 bytes, and the output's first bytes
+-- a book's answer with an output of 2,952 bytes, and the output's first bytes
 abbrev pub answered : List ℕ → ℕ × ℕ → List ℕ → BookExample
 answered B a bytes = record { book = B; room = outputSize; answer = a; bytes = bytes }
 

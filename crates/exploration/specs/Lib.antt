@@ -5,7 +5,9 @@ pub mod Union
 pub mod Answer
 pub mod Refusals
 pub mod Chain
+pub mod Rows
 pub mod Examples
 pub mod Others
 -- What only contracts of the code above are said with; the demands do not need it.
+pub mod Held
 pub mod Standing

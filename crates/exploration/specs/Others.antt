@@ -5,7 +5,8 @@ use Prim.Native.Nat.{ℕ, _+_, _*_}
 use lib.ListN.{length, replicate}
 use Rattle.covering.specs.Lists.{gather, numbers}
 use Rattle.covering.specs.Term.{con, Question}
-use Rattle.covering.specs.Record.{desk, atomBytes}
+use Rattle.covering.specs.Record.{stored, atomBytes}
+use Rattle.covering.specs.Asking.{Asking, joined}
 use Rattle.covering.specs.Rule.{Rule}
 use Rattle.unification.specs.Examples.{at1, at2, v0, v1, v2, example9}
 use Rattle.exploration.specs.Run.{too-long, none-left, refused}
@@ -15,16 +16,20 @@ use Rattle.exploration.specs.Examples.{printed-book, printed-once, depth
 
 -- a stored book: its relations' places, how many constants, the explorations allowed, its rules and its question
 abbrev ruleBytes : Rule → List ℕ
-ruleBytes r = length (r .body) ∷ length (r .head) ∷ gather (atomBytes desk) (r .body ++ r .head)
+ruleBytes r = length (r .body) ∷ length (r .head) ∷ gather (atomBytes stored) (r .body ++ r .head)
 
-abbrev stored : List ℕ → ℕ → ℕ → List Rule → Question → List ℕ
-stored places C L rules Q =
+abbrev askingBook : List ℕ → ℕ → ℕ → List Rule → Asking → List ℕ
+askingBook places C L rules q =
     let rs = gather ruleBytes rules in
     let at-rules = 18 + length places in
     let at-question = at-rules + length rs in
-    let ends = at-question + 5 * length Q in
-    header (length places ∷ C ∷ length rules ∷ length Q ∷ L ∷ 18 ∷ at-rules ∷ at-question ∷ ends ∷ [])
-    ++ (places ++ (rs ++ gather (atomBytes desk) Q))
+    let ends = at-question + 5 * length (joined q) in
+    header (length places ∷ C ∷ length rules ∷ length (q .atoms) ∷ L ∷ 18 ∷ at-rules ∷ at-question ∷ ends ∷ [])
+    ++ (places ++ (rs ++ gather (atomBytes stored) (joined q)))
+
+-- one that asks for a yes
+abbrev bookBytes : List ℕ → ℕ → ℕ → List Rule → Question → List ℕ
+bookBytes places C L rules Q = askingBook places C L rules (record { answer = []; atoms = Q })
 
 -- so many relations of one place
 abbrev ones : ℕ → List ℕ
@@ -35,7 +40,7 @@ abbrev to-first : ℕ → Rule
 to-first i = rule (at1 i v0 ∷ []) (at1 0 v0 ∷ [])
 
 abbrev example10 : ℕ → ℕ → List ℕ
-example10 n L = stored (ones (1 + n)) 2 L (map to-first (numbers 1 n)) (at1 0 c0 ∷ at1 0 (con 1) ∷ [])
+example10 n L = bookBytes (ones (1 + n)) 2 L (map to-first (numbers 1 n)) (at1 0 c0 ∷ at1 0 (con 1) ∷ [])
 
 -- "with L = 64 complete, 64 members"
 abbrev pub example10-whole : BookExample
@@ -53,7 +58,7 @@ example10-eighth = answered (example10 8 1000) (9, 9) untouched
 abbrev pub example11 : BookExample
 example11 =
     answered
-    (stored (2 ∷ []) 2 100 (rule (at2 0 v0 v1 ∷ at2 0 v1 v2 ∷ []) (at2 0 v0 v2 ∷ []) ∷ []) (at2 0 c0 (con 1) ∷ []))
+    (bookBytes (2 ∷ []) 2 100 (rule (at2 0 v0 v1 ∷ at2 0 v1 v2 ∷ []) (at2 0 v0 v2 ∷ []) ∷ []) (at2 0 c0 (con 1) ∷ []))
     (8, 8) untouched
 
 -- "Take up the oldest unexplored member; go through rules in book order": p1(x) to p0(x), p2(x) to p0(x), p3(x) to
@@ -62,7 +67,7 @@ example11 =
 abbrev pub oldest-first : BookExample
 oldest-first =
     answered
-    (stored (ones 5) 0 10
+    (bookBytes (ones 5) 0 10
     (to-first 1
     ∷ to-first 2
     ∷ rule (at1 3 v0 ∷ []) (at1 1 v0 ∷ [])
@@ -86,7 +91,7 @@ choices-in-order = rewritten example9
 -- member and two are explored; if the members were counted it would be one.
 abbrev pub removed : BookExample
 removed =
-    answered (stored (ones 2) 0 10 (rule (at1 0 v0 ∷ []) (at1 1 v0 ∷ []) ∷ []) (at1 0 v0 ∷ at1 1 v0 ∷ [])) (0, 14)
+    answered (bookBytes (ones 2) 0 10 (rule (at1 0 v0 ∷ []) (at1 1 v0 ∷ []) ∷ []) (at1 0 v0 ∷ at1 1 v0 ∷ [])) (0, 14)
     (1 ∷ 0 ∷ 2 ∷ 0 ∷ 8 ∷ 0 ∷ 14 ∷ 0 ∷ 1 ∷ 0 ∷ 0 ∷ 255 ∷ 255 ∷ 255 ∷ untouched)
 
 -- "If the member taken up is itself removed, its exploration stops at once": p0(x) to p1(x), p5(x) p6(x) p7(x) p8(x)
@@ -95,7 +100,7 @@ removed =
 abbrev pub stops-at-once : BookExample
 stops-at-once =
     answered
-    (stored (ones 9) 4 10
+    (bookBytes (ones 9) 4 10
     (rule (at1 0 v0 ∷ []) (at1 1 v0 ∷ [])
     ∷ rule (at1 5 v0 ∷ at1 6 v0 ∷ at1 7 v0 ∷ at1 8 v0 ∷ []) (at1 2 v0 ∷ [])
     ∷ [])
@@ -107,7 +112,7 @@ stops-at-once =
 -- the covering test it would be refused; with i = 5 it is refused.
 abbrev long : ℕ → List ℕ
 long i =
-    stored (ones 6) 6 10 (rule (at1 1 v0 ∷ at1 2 v0 ∷ at1 3 v0 ∷ at1 i v0 ∷ []) (at1 0 v0 ∷ []) ∷ [])
+    bookBytes (ones 6) 6 10 (rule (at1 1 v0 ∷ at1 2 v0 ∷ at1 3 v0 ∷ at1 i v0 ∷ []) (at1 0 v0 ∷ []) ∷ [])
     (at1 0 c0 ∷ map (λ c. at1 4 (con c)) (numbers 1 5))
 
 abbrev pub covered-long : BookExample
@@ -130,7 +135,7 @@ abbrev pub room-again : Example
 room-again = limited (record { cap = 8; room = 4 }) (fillers 1) 1 three (refused none-left 1)
 
 abbrev pub room-again-at-64 : BookExample
-room-again-at-64 = answered (stored (ones 22) 3 1 (fillers 21) three) (10, 1) untouched
+room-again-at-64 = answered (bookBytes (ones 22) 3 1 (fillers 21) three) (10, 1) untouched
 
 -- "8 before 9": p1(x) p2(x) to p0(x), question p0(c0), where a member may have one atom and there is room for one
 -- member. The rewriting has two atoms, and would be a second member. With 9 before 8 it would be 9.
@@ -139,10 +144,55 @@ long-and-no-room =
     limited (record { cap = 1; room = 1 }) (rule (at1 1 v0 ∷ at1 2 v0 ∷ []) (at1 0 v0 ∷ []) ∷ []) 10 (at1 0 c0 ∷ [])
     (refused too-long 1)
 
--- "The smallest applicable number among 1 to 7 wins": a book of no bytes is refused with 1 where the output has 2,631
--- bytes, and with 2 where it has 2,632. With the book judged first it would be 2 both times.
+-- With answer places (02, a): p1(x) to p0(x), question a(v0) p0(v0). The members are a(v0) p0(v0) and a(v0) p1(v0); each
+-- counts its one atom and carries its answer record uncounted.
+abbrev pub which-ones : BookExample
+which-ones =
+    answered
+    (askingBook (ones 2) 0 10 (rule (at1 1 v0 ∷ []) (at1 0 v0 ∷ []) ∷ []) (record { answer = v0 ∷ []; atoms = at1 0 v0 ∷ [] }))
+    (0, 30)
+    (2 ∷ 0 ∷ 2 ∷ 0 ∷ 8 ∷ 0 ∷ 30 ∷ 0
+    ∷ 1 ∷ 255 ∷ 0 ∷ 255 ∷ 255 ∷ 255 ∷ 0 ∷ 0 ∷ 255 ∷ 255 ∷ 255
+    ∷ 1 ∷ 255 ∷ 0 ∷ 255 ∷ 255 ∷ 255 ∷ 1 ∷ 0 ∷ 255 ∷ 255 ∷ 255 ∷ untouched)
+
+-- "outside the eight-atom limit": p5(x) p6(x) p7(x) p8(x) to p0(x), question a(v0) p0(v0) .. p4(v0). The rewriting has
+-- eight atoms and its answer record, and is a member.
+abbrev pub eight-and-the-record : BookExample
+eight-and-the-record =
+    answered
+    (askingBook (ones 9) 0 10 (rule (map (λ i. at1 i v0) (numbers 5 4)) (at1 0 v0 ∷ []) ∷ [])
+    (record { answer = v0 ∷ []; atoms = map (λ i. at1 i v0) (numbers 0 5) }))
+    (0, 85) (2 ∷ 0 ∷ 2 ∷ 0 ∷ 8 ∷ 0 ∷ 85 ∷ 0 ∷ [])
+
+-- Rules with nothing before the arrow (02, c): the rule to p0(x), question p0(v0). The rewriting has no atoms and covers the
+-- question; it is taken up like any other. With L = 1 it is left unexplored.
+abbrev known-rule : Rule
+known-rule = rule [] (at1 0 v0 ∷ [])
+
+abbrev pub known : BookExample
+known = answered (bookBytes (ones 1) 0 10 (known-rule ∷ []) (at1 0 v0 ∷ [])) (0, 9) (1 ∷ 0 ∷ 2 ∷ 0 ∷ 8 ∷ 0 ∷ 9 ∷ 0 ∷ 0 ∷ untouched)
+
+abbrev pub known-once : BookExample
+known-once = answered (bookBytes (ones 1) 0 1 (known-rule ∷ []) (at1 0 v0 ∷ [])) (10, 1) untouched
+
+-- the rule to p0(c0), question a(v0) p0(v0): a(c0) without atoms is a member, and has only a constant to answer
+abbrev pub known-which : BookExample
+known-which =
+    answered (askingBook (ones 1) 1 10 (rule [] (at1 0 c0 ∷ []) ∷ []) (record { answer = v0 ∷ []; atoms = at1 0 v0 ∷ [] }))
+    (0, 25)
+    (2 ∷ 0 ∷ 2 ∷ 0 ∷ 8 ∷ 0 ∷ 25 ∷ 0
+    ∷ 1 ∷ 255 ∷ 0 ∷ 255 ∷ 255 ∷ 255 ∷ 0 ∷ 0 ∷ 255 ∷ 255 ∷ 255
+    ∷ 0 ∷ 255 ∷ 128 ∷ 255 ∷ 255 ∷ 255 ∷ untouched)
+
+-- "11, an answer variable in no question atom, .. place its byte": question a(v0,v1) p0(v0)
+abbrev pub loose : BookExample
+loose =
+    answered (askingBook (ones 1) 0 10 [] (record { answer = v0 ∷ v1 ∷ []; atoms = at1 0 v0 ∷ [] })) (11, 21) untouched
+
+-- "The smallest applicable number among 1 to 7 wins": a book of no bytes is refused with 1 where the output has 2,951
+-- bytes, and with 2 where it has 2,952. With the book judged first it would be 2 both times.
 abbrev pub short-output : BookExample
-short-output = record { book = []; room = 2631; answer = (1, 0); bytes = untouched }
+short-output = record { book = []; room = 2951; answer = (1, 0); bytes = untouched }
 
 abbrev pub no-book : BookExample
 no-book = answered [] (2, 0) untouched
@@ -161,6 +211,12 @@ more-examples =
     ∷ answering uncovered-long
     ∷ room-again
     ∷ long-and-no-room
+    ∷ answering which-ones
+    ∷ answering eight-and-the-record
+    ∷ answering loose
+    ∷ answering known
+    ∷ answering known-once
+    ∷ answering known-which
     ∷ answering short-output
     ∷ answering no-book
     ∷ answering example10-whole

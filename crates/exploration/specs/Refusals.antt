@@ -6,19 +6,28 @@ use mathlib.Core.Logic.{_⊎_}
 use mathlib.Core.List.{List}
 use Prim.Native.Nat.{ℕ, _≤_, _<_}
 use Rattle.covering.specs.Term.{Question}
+use Rattle.covering.specs.Asking.{joined, records}
 use Rattle.covering.specs.Search.{covers}
 use Rattle.reading.specs.Book.{bookOf}
 use Rattle.reading.specs.Refusals.{ApplicableToBook}
-use Rattle.exploration.specs.Run.{limits, State, Why, refusalNumber, Outcome, complete, refused, allRewritings}
+use Rattle.exploration.specs.Run.{Limits, limitsFor, State, Why, refusalNumber, Outcome, complete, refused, allRewritings}
 use Rattle.exploration.specs.Steps.{within, Reaches, Ends}
 use Rattle.exploration.specs.Union.{outputSize}
 
--- "| no. | when | place |", 1 to 7
+-- "| no. | when | place |", 1 to 7, and 11
 pub data Applicable (B : List ℕ) (room : ℕ) : ℕ → ℕ → Type 0 where
-  -- 1: "output under 2,632 bytes", at 0
+  -- 1: output under 2,952 bytes, at 0; "Output room is 2,952 for all" (02, a)
   one : room < outputSize → Applicable B room 1 0
-  -- 2 to 7 are the book's
+  -- 2 to 7 and 11 are the book's
   of-book : {n p : ℕ} → ApplicableToBook B n p → Applicable B room n p
+
+-- how many answer records the book's question has, and so each member: one, or none
+abbrev pub answersOf : List ℕ → ℕ
+answersOf B = records (bookOf B .question .answer)
+
+-- what the run of the book keeps to
+abbrev pub limitsOf : List ℕ → Limits
+limitsOf B = limitsFor (answersOf B)
 
 -- the run of the book takes this question up: it comes to explore it, in some state and with some of its rewritings
 -- yet to come
@@ -26,16 +35,17 @@ pub record Explores (B : List ℕ) (M : Question) : Type 0 where
   pub yet : List Question
   pub state : State
   pub taken : ℕ
-  pub reaches : Reaches covers limits (allRewritings (bookOf B .rules)) (bookOf B .allowed) (bookOf B .question)
-      (within M yet state taken)
+  pub reaches : Reaches covers (limitsOf B) (allRewritings (bookOf B .rules)) (bookOf B .allowed)
+      (joined (bookOf B .question)) (within M yet state taken)
 
 -- the run of the book ends so
 abbrev pub RunEnds : List ℕ → Outcome → Type 0
-RunEnds B o = Ends covers limits (allRewritings (bookOf B .rules)) (bookOf B .allowed) (bookOf B .question) o
+RunEnds B o =
+    Ends covers (limitsOf B) (allRewritings (bookOf B .rules)) (bookOf B .allowed) (joined (bookOf B .question)) o
 
 -- number n at place p
 pub data Refuses (B : List ℕ) (room n p : ℕ) : Type 0 where
-  -- "The smallest applicable number among 1 to 7 wins, and within it the earliest place."
+  -- "The smallest applicable number among 1 to 7 wins, and within it the earliest place."; 11 "after 7 and before 8"
   smallest : Applicable B room n p → ((m q : ℕ) → Applicable B room m q → (n < m) ⊎ ((n ≡ m) × (p ≤ q)))
       → Refuses B room n p
   -- "Then 8 to 10 come as the exploration meets them, 8 before 9."

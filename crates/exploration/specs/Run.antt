@@ -4,7 +4,7 @@
 use mathlib.Core.Bool.{Bool, cond, not}
 use mathlib.Core.List.{List, [], _∷_, _++_}
 use mathlib.Core.Option.{Option, none, some}
-use Prim.Native.Nat.{ℕ, zero, suc}
+use Prim.Native.Nat.{ℕ, zero, suc, _+_}
 use lib.Dec.{ltb}
 use lib.ListN.{length, take, drop}
 use Rattle.covering.specs.Lists.{any, keep, head, gather}
@@ -12,6 +12,7 @@ use Rattle.covering.specs.Term.{Question}
 use Rattle.covering.specs.Search.{covers}
 use Rattle.covering.specs.Form.{form}
 use Rattle.covering.specs.Rule.{Rule}
+use Rattle.covering.specs.Asking.{Asking, joined, records}
 use Rattle.unification.specs.Step.{rewritings}
 
 -- whether the first question covers the second
@@ -23,8 +24,10 @@ pub record Limits : Type 0 where
   pub cap : ℕ
   pub room : ℕ
 
-abbrev pub limits : Limits
-limits = record { cap = 8; room = 64 }
+-- the limits where each question has so many answer records, one or none: it is an atom here, but "outside the
+-- eight-atom limit" (02, a)
+abbrev pub limitsFor : ℕ → Limits
+limitsFor answers = record { cap = 8 + answers; room = 64 }
 
 -- The members in order of arrival, and how many of them are explored: these stand in front, since the oldest
 -- unexplored one is taken up and a new one is appended. The member being explored is the last of them.
@@ -139,8 +142,8 @@ module _ (cov : Test) where
       unfoldable pub runBy : ℕ → Question → Outcome
       runBy allowed Q = exploring allowed 0 (start Q)
 
--- "The rule's variables are kept apart from the question's": a member has at most 8 atoms of at most 4 places, so its
--- variables are below 32
+-- "The rule's variables are kept apart from the question's": a member has at most 8 atoms of at most 4 places, and its
+-- answer variables stand in them, so its variables are below 32
 abbrev pub apart : ℕ
 apart = 32
 
@@ -148,6 +151,6 @@ apart = 32
 abbrev pub allRewritings : List Rule → Question → List Question
 allRewritings rules M = gather (λ r. rewritings apart r M) rules
 
--- the run of a book's rules, explorations allowed and question
-unfoldable pub run : List Rule → ℕ → Question → Outcome
-run rules allowed Q = runBy covers limits (allRewritings rules) allowed Q
+-- the run of a book's rules, explorations allowed and question, which may have answer places
+unfoldable pub run : List Rule → ℕ → Asking → Outcome
+run rules allowed q = runBy covers (limitsFor (records (q .answer))) (allRewritings rules) allowed (joined q)

@@ -1,11 +1,27 @@
--- Members that stand in bytes, as the code that reads them asks.
+-- Members as they are written, as the code that reads them asks.
+use mathlib.Core.Path.{_≡_}
 use mathlib.Core.List.{List}
-use Prim.Native.Nat.{ℕ, zero, suc}
-use lib.ListN.{drop}
-use Rattle.covering.specs.Record.{desk, SoundRecord}
+use Prim.Native.Nat.{ℕ, zero, suc, _+_, _≤_}
+use lib.ListN.{length}
+use Rattle.covering.specs.Term.{Question}
+use Rattle.covering.specs.Asking.{asking, records}
+use Rattle.covering.specs.Record.{stored, atomsAt}
+use Rattle.covering.specs.Buffer.{AtomsIn}
+use Rattle.reading.specs.Word.{byte}
 use Rattle.exploration.specs.Union.{memberEnd}
 
--- n members stand from i on, one after the other, each as a sound record
-unfoldable pub Standing : List ℕ → ℕ → ℕ → Type 0
-Standing W i zero = Unit {0}
-Standing W i (suc n) = SoundRecord desk (drop i W) × Standing W (memberEnd W i) n
+-- a question of so many answer records and so many other atoms
+pub record Counted (answers count : ℕ) (M : Question) : Type 0 where
+  pub records-are : records (asking M .answer) ≡ answers
+  pub atoms-are : length (asking M .atoms) ≡ count
+
+-- a member stands at i: so many answer records and the atoms that it counts, sound ones, at most twelve in all
+pub record MemberAt (answers : ℕ) (W : List ℕ) (i : ℕ) : Type 0 where
+  pub most : answers + byte W i ≤ stored .atoms
+  pub atoms : AtomsIn stored W (i + 1) (answers + byte W i)
+  pub is : Counted answers (byte W i) (atomsAt stored W (i + 1) (answers + byte W i))
+
+-- n members stand from i on, one after the other
+unfoldable pub WrittenAt : ℕ → List ℕ → ℕ → ℕ → Type 0
+WrittenAt answers W i zero = Unit {0}
+WrittenAt answers W i (suc n) = MemberAt answers W i × WrittenAt answers W (memberEnd answers W i) n

@@ -11,25 +11,27 @@ use lib.ListN.{length, getD, drop}
 use lib.Seq.{drop-drop}
 use Rattle.covering.specs.Lists.{head}
 use Rattle.covering.specs.Term.{Question}
-use Rattle.covering.specs.Record.{desk, questionOf}
+use Rattle.covering.specs.Record.{stored, questionOf}
 use Rattle.covering.specs.Rule.{Rule}
 use Rattle.reading.specs.declared.Header.{Header}
 use Rattle.book.specs.declared.Parts.{Parts}
 use Rattle.reading.specs.Header.{rules, HeaderRead}
 use Rattle.book.specs.Parts.{StartsAt, partsAt}
 use Rattle.reading.specs.Verdict.{SoundBook}
-use Rattle.reading.proofs.SoundBook.{sound-header, sound-rule, sound-question}
+use Rattle.reading.proofs.SoundBook.{sound-header, sound-rule}
+use Rattle.reading.proofs.SoundQuestion.{sound-question}
 use Rattle.reading.specs.Book.{ruleAt, rulesFrom, ruleStart}
 use Rattle.reading.proofs.Reading.{rules-none, rules-more}
 use Rattle.lister.specs.declared.Found.{Found}
-use Rattle.lister.specs.Asking.{ruleOf, RuleIn, QuestionIn, foundOf}
+use Rattle.lister.specs.Listing.{ruleOf, RuleIn, QuestionIn, foundOf}
+use Rattle.lister.specs.Counts.{mostChoices}
 use Rattle.lister.proofs.FromBook.{rule-in, rule-asked, found-within}
-use Rattle.unification.specs.Choice.{mostChoices}
 use Rattle.unification.specs.Step.{next}
 use Rattle.exploration.specs.Run.{apart}
 use Rattle.explore.specs.Taking.{orLater, nextAmong, taken, NumberedRewriting}
-use Rattle.exploration.specs.Union.{membersFrom, firstAt, memberEnd}
-use Rattle.exploration.specs.Standing.{Standing}
+use Rattle.exploration.specs.Union.{firstAt}
+use Rattle.exploration.specs.Held.{heldFrom, heldEnd}
+use Rattle.exploration.specs.Held.{Standing}
 use Rattle.exploration.proofs.Standing.{Here, stands}
 use Rattle.exploration.proofs.Members.{members-more}
 
@@ -81,7 +83,7 @@ module _ (B : List ℕ) where
 -- the members from the i-th on stand from `at` on
 pub record From (W : List ℕ) (count at i : ℕ) : Type 0 where
   pub standing : Standing W at (count - i)
-  pub members : drop i (membersFrom W firstAt count) ≡ membersFrom W at (count - i)
+  pub members : drop i (heldFrom W firstAt count) ≡ heldFrom W at (count - i)
 
 module _ (W : List ℕ) (count : ℕ) where
   pub from-first : Standing W firstAt count → From W count firstAt 0
@@ -91,16 +93,16 @@ module _ (W : List ℕ) (count : ℕ) where
     pub from-here : Here W at (count - (i + 1))
     from-here = stands W at i count h (f .standing)
 
-    pub from-next : From W count (memberEnd W at) (i + 1)
+    pub from-next : From W count (heldEnd W at) (i + 1)
     from-next =
         record {
           standing = from-here .rest;
           members =
-              sym (drop-drop 1 i (membersFrom W firstAt count))
+              sym (drop-drop 1 i (heldFrom W firstAt count))
               ∙ ap (drop 1) (f .members ∙ members-more W at count i h);
         }
 
-    pub from-head : head (drop i (membersFrom W firstAt count)) ≡ some (questionOf desk (drop at W))
+    pub from-head : head (drop i (heldFrom W firstAt count)) ≡ some (questionOf stored (drop at W))
     from-head = ap head (f .members ∙ members-more W at count i h)
 
 -- what the loop over rules needs of a sound book and of what was read of it
@@ -140,5 +142,5 @@ module _ (B : List ℕ) (s : SoundBook B) where
           ∙ ap (λ (r : Rule). foundOf (next 32 r M n)) (rule-asked B (ruleStart B k))
 
       pub few-choices : (Q : List ℕ) → QuestionIn Q → (n : ℕ) (f : Found)
-          → f ≡ foundOf (next 32 (ruleOf B p) (questionOf desk Q) n) → f .found ≡ true → f .choice < mostChoices
+          → f ≡ foundOf (next 32 (ruleOf B p) (questionOf stored Q) n) → f .found ≡ true → f .choice < mostChoices
       few-choices Q q n f x t = found-within Q B p q parts-in n f x t .1

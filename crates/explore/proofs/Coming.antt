@@ -9,8 +9,8 @@ use native.Mathlib.Omega.{arith}
 use lib.ListN.{drop}
 use lib.Seq.{drop-drop}
 use Rattle.covering.specs.Term.{Question}
-use Rattle.covering.specs.Record.{desk}
-use Rattle.covering.specs.Buffer.{heldIn}
+use Rattle.covering.specs.Record.{stored}
+use Rattle.covering.specs.Buffer.{heldIn, recordRoom}
 use Rattle.covering.proofs.Tests.{none≢some}
 use Rattle.covering.specs.Rule.{Rule}
 use Rattle.unification.specs.Step.{next}
@@ -82,7 +82,7 @@ next-some M k n (r ∷ rules) e h = go (next apart r M n) refl h (next-some M (s
 -- what the code was given
 pub record Given (M : Question) (k n : ℕ) (rules : List Rule) (t : Taken) : Type 0 where
   pub rewriting : Question
-  pub bytes : t .rewriting ≡ heldIn desk 56 rewriting
+  pub bytes : t .rewriting ≡ heldIn stored recordRoom rewriting
   pub coming-is : coming M n (drop k rules) ≡ rewriting ∷ coming M (t .choice + 1) (drop (t .rule) rules)
 
 module _ (M : Question) (k n : ℕ) (rules : List Rule) (t : Taken) (e : t ≡ taken (nextAmong M k n (drop k rules))) where

@@ -13,3 +13,5 @@ pub mod Endings
 -- what it determines
 pub mod Determined
 pub mod Demanded
+-- answer records taken out of the counts
+pub mod Uncounting

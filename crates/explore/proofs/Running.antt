@@ -9,8 +9,9 @@ use Rattle.covering.specs.Lists.{_∈_, head}
 use Rattle.covering.specs.Term.{Question}
 use Rattle.covering.specs.Search.{covers}
 use Rattle.covering.specs.Form.{form}
-use Rattle.covering.specs.Record.{desk, questionOf, recordBytes, Fits, SoundRecord}
-use Rattle.covering.specs.Buffer.{heldIn}
+use Rattle.covering.specs.Record.{stored, questionOf, recordBytes, Fits, SoundRecord}
+use Rattle.covering.specs.Buffer.{heldIn, recordRoom}
+use Rattle.covering.specs.Asking.{joined, Shaped}
 use Rattle.covering.proofs.Lengths.{question-count, record-long}
 use Rattle.reading.specs.declared.Header.{Header}
 use Rattle.reading.specs.Header.{HeaderRead}
@@ -21,22 +22,23 @@ use Rattle.admit.specs.declared.Extent.{Extent}
 use Rattle.explore.specs.declared.Explored.{Explored}
 use Rattle.explore.specs.declared.Explored.the-variants.{Passed, Refused}
 use Rattle.explore.specs.declared.Ran.the-variants.{Complete, Refused as NotRun}
-use Rattle.exploration.specs.Run.{State, limits, none-left, Pass, Outcome, refused, onPass, oldest}
+use Rattle.exploration.specs.Run.{State, none-left, Pass, Outcome, refused, onPass, oldest}
 use Rattle.exploration.specs.Run.{takenUp, start, through, exploring, allRewritings}
 use Rattle.exploration.specs.Steps.{between, within, Reaches, begins, takes-up}
 use Rattle.exploration.specs.Union.{firstAt, outputSize}
 use Rattle.exploration.specs.Answer.{outcomeOf}
+use Rattle.exploration.specs.Refusals.{limitsOf}
 use Rattle.admit.specs.WorkingArray.{Working, HoldsState, stateIn}
 use Rattle.explore.specs.Exploring.{MemberIn, ExploredIs, RanIs}
 use Rattle.explore.proofs.Records.{member-question}
-use Rattle.covering.proofs.Padded.{desk-sound, desk-question}
-use Rattle.exploration.proofs.UnionBytes.{total-is}
+use Rattle.covering.proofs.Padded.{stored-sound, stored-question}
+use Rattle.exploration.proofs.HeldBytes.{held-total}
 use Rattle.admit.proofs.Holding.{held-appended}
 use Rattle.exploration.proofs.Members.{members-count}
 use Rattle.admit.proofs.Array.{state-held, held-working}
 use Rattle.exploration.proofs.Turns.{turn-complete, turn-ten, turn-explores}
 use Rattle.exploration.proofs.Ends.{through-reaches}
-use Rattle.exploration.proofs.OfBook.{Member, run-begins, first-member, taken-member, desk-fits}
+use Rattle.exploration.proofs.OfBook.{Member, run-begins, first-member, taken-member, stored-fits, member-few}
 
 -- the next of a list
 head-some : {A : Type 0} (n : ℕ) (l : List A) → n < length l → (a : A) × (head (drop n l) ≡ some a)
@@ -58,43 +60,43 @@ module _ (B : List ℕ) where
   allowed = bookOf B .allowed
 
   abbrev Comes : State → ℕ → Type 0
-  Comes s n = Reaches covers limits steps allowed (bookOf B .question) (between s n)
+  Comes s n = Reaches covers (limitsOf B) steps allowed (joined (bookOf B .question)) (between s n)
 
   -- so many questions were taken up; the run comes to the state that the array holds
   pub record Running (X : List ℕ) (f : Extent) (taken : ℕ) : Type 0 where
     pub working : Working X f
     pub few : taken ≤ bookOf B .allowed
-    pub comes : Reaches covers limits (allRewritings (bookOf B .rules)) (bookOf B .allowed) (bookOf B .question)
+    pub comes : Reaches covers (limitsOf B) (allRewritings (bookOf B .rules)) (bookOf B .allowed) (joined (bookOf B .question))
         (between (stateIn X f) taken)
     pub outcome : outcomeOf B
-        ≡ exploring covers limits (allRewritings (bookOf B .rules)) (bookOf B .allowed - taken) taken (stateIn X f)
+        ≡ exploring covers (limitsOf B) (allRewritings (bookOf B .rules)) (bookOf B .allowed - taken) taken (stateIn X f)
 
   -- "The form of the question is the first member."
   module _ (s : SoundBook B) (W : List ℕ) (size : length W ≡ outputSize) where
     abbrev P : Question
-    P = form (bookOf B .question)
+    P = form (joined (bookOf B .question))
 
     empty : HoldsState W firstAt 0 0 (record { members = []; explored = 0 })
     empty =
-        record { size = size; bytes = refl; ends = sym (total-is []); members = refl; explored = refl }
+        record { size = size; bytes = refl; ends = sym (held-total []); members = refl; explored = refl }
 
-    fits : Fits desk P
-    fits = desk-fits B s (first-member B s .fits)
+    fits : Fits stored P
+    fits = stored-fits B s (first-member B s .fits)
 
-    short : length P ≤ 8
-    short = first-member B s .fits .most
+    short : length P ≤ 9
+    short = member-few B s (first-member B s)
 
-    room : firstAt + length (recordBytes desk P) ≤ outputSize
-    room = omega (arith, record-long desk P, short)
+    room : firstAt + length (recordBytes stored P) ≤ outputSize
+    room = omega (arith, record-long stored P, short)
 
-    module _ (X : List ℕ) (r : ℕ) (end : r ≡ firstAt + length (recordBytes desk (form (bookOf B .question))))
-        (put : X ≡ take firstAt W ++ (recordBytes desk (form (bookOf B .question)) ++ drop r W))
+    module _ (X : List ℕ) (r : ℕ) (end : r ≡ firstAt + length (recordBytes stored (form (joined (bookOf B .question)))))
+        (put : X ≡ take firstAt W ++ (recordBytes stored (form (joined (bookOf B .question))) ++ drop r W))
       where
-        held : HoldsState X r 1 0 (start (bookOf B .question))
+        held : HoldsState X r 1 0 (start (joined (bookOf B .question)))
         held =
-            subst (λ (Z : List ℕ). HoldsState Z r 1 0 (start (bookOf B .question))) (sym put)
+            subst (λ (Z : List ℕ). HoldsState Z r 1 0 (start (joined (bookOf B .question)))) (sym put)
             (subst
-            (λ (k : ℕ). HoldsState (take firstAt W ++ (recordBytes desk P ++ drop k W)) k 1 0 (start (bookOf B .question)))
+            (λ (k : ℕ). HoldsState (take firstAt W ++ (recordBytes stored P ++ drop k W)) k 1 0 (start (joined (bookOf B .question))))
             (sym end) (held-appended empty (omega arith) P room))
 
         each : (G : Question → Type 0) → G P → (M : Question) → M ∈ P ∷ [] → G M
@@ -104,38 +106,38 @@ module _ (B : List ℕ) where
         running-first =
             record {
               working =
-                  held-working held (each (Fits desk) fits) (each (λ M. length M ≤ 8) short) (omega arith) (omega arith);
+                  held-working held (each (Fits stored) fits) (each (λ M. length M ≤ 9) short) (omega arith) (omega arith);
               few = omega arith;
               comes = subst (λ (t : State). Comes t 0) (sym begun) begins;
               outcome =
                   run-begins (bookOf B .rules) allowed (bookOf B .question)
-                  ∙ ap₂ (λ (n : ℕ) (t : State). exploring covers limits steps n 0 t) all (sym begun);
+                  ∙ ap₂ (λ (n : ℕ) (t : State). exploring covers (limitsOf B) steps n 0 t) all (sym begun);
             }
           where
-            begun : stateIn X (record { len = r; count = 1; front = 0 }) ≡ start (bookOf B .question)
-            begun = state-held held (each (Fits desk) fits)
+            begun : stateIn X (record { len = r; count = 1; front = 0 }) ≡ start (joined (bookOf B .question))
+            begun = state-held held (each (Fits stored) fits)
 
             all : allowed ≡ allowed - 0
             all = omega arith
 
     -- as `append` is given it
-    module _ (R : List ℕ) (is : R ≡ heldIn desk 56 (form (bookOf B .question))) where
-      pub first-sound : SoundRecord desk R
-      first-sound = subst (SoundRecord desk) (sym is) (desk-sound P fits)
+    module _ (R : List ℕ) (is : R ≡ heldIn stored recordRoom (form (joined (bookOf B .question)))) where
+      pub first-sound : SoundRecord stored R
+      first-sound = subst (SoundRecord stored) (sym is) (stored-sound P fits)
 
-      first-question : questionOf desk R ≡ form (bookOf B .question)
-      first-question = ap (questionOf desk) is ∙ desk-question P fits
+      first-question : questionOf stored R ≡ form (joined (bookOf B .question))
+      first-question = ap (questionOf stored) is ∙ stored-question P fits
 
       pub first-fits : firstAt + (1 + getD R 0 0 * 5) ≤ length W
-      first-fits = omega (arith, size, question-count desk R, ap length first-question, short)
+      first-fits = omega (arith, size, question-count stored R, ap length first-question, short)
 
-      pub first-running : (X : List ℕ) (r : ℕ) → r ≡ firstAt + length (recordBytes desk (questionOf desk R))
-          → X ≡ take firstAt W ++ (recordBytes desk (questionOf desk R) ++ drop r W)
+      pub first-running : (X : List ℕ) (r : ℕ) → r ≡ firstAt + length (recordBytes stored (questionOf stored R))
+          → X ≡ take firstAt W ++ (recordBytes stored (questionOf stored R) ++ drop r W)
           → Running X (record { len = r; count = 1; front = 0 }) 0
       first-running X r end put =
           running-first X r
-          (subst (λ (A : Question). r ≡ firstAt + length (recordBytes desk A)) first-question end)
-          (subst (λ (A : Question). X ≡ take firstAt W ++ (recordBytes desk A ++ drop r W)) first-question put)
+          (subst (λ (A : Question). r ≡ firstAt + length (recordBytes stored A)) first-question end)
+          (subst (λ (A : Question). X ≡ take firstAt W ++ (recordBytes stored A ++ drop r W)) first-question put)
 
   pub allowed-read : (h : Header) → HeaderRead B h → h .allowed ≡ bookOf B .allowed
   allowed-read h r = ap (λ (x : Header). x .allowed) (r .is) ∙ sym (book-allowed B)
@@ -151,7 +153,7 @@ module _ (B : List ℕ) where
     pub outcome-complete : bookOf B .allowed ≤ 1000 → f .count ≤ f .front → RanIs (outcomeOf B) X (Complete f taken)
     outcome-complete most h = (
       r .outcome
-          ∙ turn-complete covers limits steps taken s (allowed - taken)
+          ∙ turn-complete covers (limitsOf B) steps taken s (allowed - taken)
           (head-none (f .front) (s .members) (omega (arith, all-members))),
       r .working,
       omega (arith, r .few, most),
@@ -162,8 +164,8 @@ module _ (B : List ℕ) where
         let m = head-some (f .front) (s .members) (omega (arith, all-members)) in (
           none-left,
           r .outcome
-              ∙ ap (λ (n : ℕ). exploring covers limits steps n taken s) none-more
-              ∙ turn-ten covers limits steps taken s (m .1),
+              ∙ ap (λ (n : ℕ). exploring covers (limitsOf B) steps n taken s) none-more
+              ∙ turn-ten covers (limitsOf B) steps taken s (m .1),
           refl,
         )
       where
@@ -200,37 +202,38 @@ module _ (B : List ℕ) where
           }
 
       module _ (sound : SoundBook B) (M : Question) (old : oldest (stateIn X f) ≡ some M) where
-        comes-within : Reaches covers limits steps allowed (bookOf B .question)
+        comes-within : Reaches covers (limitsOf B) steps allowed (joined (bookOf B .question))
             (within M (steps M) (stateIn X up) (suc taken))
         comes-within =
-            subst (λ (t : State). Reaches covers limits steps allowed (bookOf B .question) (within M (steps M) t (suc taken)))
+            subst (λ (t : State). Reaches covers (limitsOf B) steps allowed (joined (bookOf B .question)) (within M (steps M) t (suc taken)))
             (sym up-is) (takes-up (r .comes) old more)
 
         member : Member B M
         member = taken-member B sound comes-within
 
-        pub question-is : (R : List ℕ) → R ≡ heldIn desk 56 M → questionOf desk R ≡ M
-        question-is R e = ap (questionOf desk) e ∙ member-question B sound M (member .fits)
+        pub question-is : (R : List ℕ) → R ≡ heldIn stored recordRoom M → questionOf stored R ≡ M
+        question-is R e = ap (questionOf stored) e ∙ member-question B sound M (member .fits)
 
-        pub member-of : (R : List ℕ) → R ≡ heldIn desk 56 M → MemberIn B R
+        pub member-of : (R : List ℕ) → R ≡ heldIn stored recordRoom M → MemberIn B R
         member-of R e =
             let q = question-is R e in
             record {
-              holds = e ∙ ap (heldIn desk 56) (sym q);
+              holds = e ∙ ap (heldIn stored recordRoom) (sym q);
               fits = subst (Fits (layoutOf B)) (sym q) (member .fits);
+              shaped = subst (Shaped (length (bookOf B .question .answer))) (sym q) (member .shaped);
             }
 
         turn : outcomeOf B
-            ≡ onPass (through covers limits M (steps M) (stateIn X up))
-            (λ t. exploring covers limits steps (allowed - suc taken) (suc taken) t)
+            ≡ onPass (through covers (limitsOf B) M (steps M) (stateIn X up))
+            (λ t. exploring covers (limitsOf B) steps (allowed - suc taken) (suc taken) t)
             (λ w. refused w (suc taken))
         turn =
             r .outcome
-            ∙ ap (λ (n : ℕ). exploring covers limits steps n taken s) left
-            ∙ turn-explores covers limits steps taken s old (allowed - suc taken)
+            ∙ ap (λ (n : ℕ). exploring covers (limitsOf B) steps n taken s) left
+            ∙ turn-explores covers (limitsOf B) steps taken s old (allowed - suc taken)
             ∙ ap
-            (λ (t : State). onPass (through covers limits M (steps M) t)
-            (λ u. exploring covers limits steps (allowed - suc taken) (suc taken) u) (λ w. refused w (suc taken)))
+            (λ (t : State). onPass (through covers (limitsOf B) M (steps M) t)
+            (λ u. exploring covers (limitsOf B) steps (allowed - suc taken) (suc taken) u) (λ w. refused w (suc taken)))
             (sym up-is)
           where
             left : allowed - taken ≡ suc (allowed - suc taken)
@@ -240,18 +243,18 @@ module _ (B : List ℕ) where
         one-taken = omega arith
 
         -- what its exploration gave
-        module _ (R : List ℕ) (is : R ≡ heldIn desk 56 M) (Y : List ℕ) (v : Explored)
-            (x : ExploredIs (bookOf B .rules) (questionOf desk R) X
+        module _ (R : List ℕ) (is : R ≡ heldIn stored recordRoom M) (Y : List ℕ) (v : Explored)
+            (x : ExploredIs (limitsOf B) (bookOf B .rules) (questionOf stored R) X
             (record { len = f .len; count = f .count; front = f .front + 1 }) Y v)
           where
-            gave : (u : Explored) → v ≡ u → ExploredIs (bookOf B .rules) M X up Y u
+            gave : (u : Explored) → v ≡ u → ExploredIs (limitsOf B) (bookOf B .rules) M X up Y u
             gave u e =
-                subst (ExploredIs (bookOf B .rules) M X up Y) e
-                (subst (λ (A : Question). ExploredIs (bookOf B .rules) A X up Y v) (question-is R is) x)
+                subst (ExploredIs (limitsOf B) (bookOf B .rules) M X up Y) e
+                (subst (λ (A : Question). ExploredIs (limitsOf B) (bookOf B .rules) A X up Y v) (question-is R is) x)
 
             after : Pass → Outcome
             after p =
-                onPass p (λ t. exploring covers limits steps (allowed - suc taken) (suc taken) t)
+                onPass p (λ t. exploring covers (limitsOf B) steps (allowed - suc taken) (suc taken) t)
                 (λ w. refused w (suc taken))
 
             pub running-next : (d : Extent) → v ≡ Passed d → Running Y d (taken + 1)
@@ -263,12 +266,12 @@ module _ (B : List ℕ) where
                   few = omega arith;
                   comes =
                       subst (λ (n : ℕ). Comes (stateIn Y d) n) one-taken
-                      (through-reaches covers limits steps allowed (bookOf B .question) M (steps M) (stateIn X up)
+                      (through-reaches covers (limitsOf B) steps allowed (joined (bookOf B .question)) M (steps M) (stateIn X up)
                       (stateIn Y d) (suc taken) comes-within (y .0));
                   outcome =
                       turn
                       ∙ ap after (y .0)
-                      ∙ ap (λ (n : ℕ). exploring covers limits steps (allowed - n) n (stateIn Y d)) one-taken;
+                      ∙ ap (λ (n : ℕ). exploring covers (limitsOf B) steps (allowed - n) n (stateIn Y d)) one-taken;
                 }
 
             pub outcome-refused : (k : ℕ) → v ≡ Refused k → RanIs (outcomeOf B) Y (NotRun k (taken + 1))

@@ -5,8 +5,8 @@ use mathlib.Core.Option.{Option, none, some}
 use Prim.Native.Nat.{ℕ, suc}
 use lib.ListN.{replicate}
 use Rattle.covering.specs.Term.{Question}
-use Rattle.covering.specs.Record.{desk}
-use Rattle.covering.specs.Buffer.{heldIn}
+use Rattle.covering.specs.Record.{stored}
+use Rattle.covering.specs.Buffer.{heldIn, recordRoom}
 use Rattle.covering.specs.Rule.{Rule}
 use Rattle.unification.specs.Step.{next}
 use Rattle.explore.specs.declared.Taken.{Taken}
@@ -30,6 +30,6 @@ nextAmong M k n (r ∷ rules) = orLater k (next apart r M n) (nextAmong M (suc k
 
 -- how the code holds it
 abbrev pub taken : Option NumberedRewriting → Taken
-taken none = record { found = false; rule = 0; choice = 0; rewriting = replicate 56 255 }
+taken none = record { found = false; rule = 0; choice = 0; rewriting = replicate recordRoom 255 }
 taken (some e) =
-    record { found = true; rule = e .rule; choice = e .choice; rewriting = heldIn desk 56 (e .rewriting) }
+    record { found = true; rule = e .rule; choice = e .choice; rewriting = heldIn stored recordRoom (e .rewriting) }

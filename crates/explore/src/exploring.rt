@@ -1,12 +1,13 @@
 // Exploring one member.
 ghost use mathlib.Core.Path.{_≡_};
-ghost use Rattle.covering.specs.Record.{desk, questionOf};
+ghost use Rattle.covering.specs.Record.{stored, questionOf};
 ghost use Rattle.reading.specs.Header.{rules as rulesOf};
 ghost use Rattle.reading.specs.Book.{bookOf};
 ghost use Rattle.reading.specs.Verdict.{SoundBook};
 ghost use Rattle.book.specs.Parts.{StartsAt};
 ghost use Rattle.admit.specs.WorkingArray.{Working};
 ghost use Rattle.explore.specs.Exploring.{MemberIn, ExploredIs};
+ghost use Rattle.exploration.specs.Refusals.{answersOf, limitsOf};
 use super::Explored;
 use super::taking_up::next_rewriting;
 use admit::Extent;
@@ -22,15 +23,18 @@ pub fn explore(
     member: &[u8],
     work: &mut [u8],
     filled: Extent,
+    answers: u8,
 ) -> Explored
     requires { ⌜ SoundBook (now book)
         × (rules ≡ rulesOf (now book))
         × StartsAt (now book) (now starts)
         × MemberIn (now book) (now member)
-        × Working (now work) filled ⌝ }
+        × Working (now work) filled
+        × (answers ≡ answersOf (now book)) ⌝ }
     ensures { λ r. ⌜ ExploredIs
+        (limitsOf (now (book .entry)))
         (bookOf (now (book .entry)) .rules)
-        (questionOf desk (now (member .entry)))
+        (questionOf stored (now (member .entry)))
         (now (work .entry))
         filled
         (now (work .exit))
@@ -45,7 +49,7 @@ pub fn explore(
             return Explored::Passed(held);
         }
         let rewriting = taken.rewriting;
-        let fate = admit(work, held, &rewriting);
+        let fate = admit(work, held, &rewriting, answers);
         match fate {
             Fate::Dropped => {}
             Fate::Appended(next) => {

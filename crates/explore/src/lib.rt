@@ -6,18 +6,20 @@ mod whole_run;
 mod written;
 
 use admit::Extent;
+use covering::RECORD;
+pub use whole_run::answer_records;
 pub use whole_run::run;
 
-// "It takes at most 8 + 64 x 41 = 2,632 bytes": what an output must have room for.
-pub const OUTPUT: usize = 2632;
+// "Output room is 2,952 for all": 8 and 64 times the record of eight atoms and an answer record.
+pub const OUTPUT: usize = 2952;
 
 // The next rewriting: whether there is one, the numbers of its rule and of its choice, and its record at the front of
-// 56 bytes, the rest 255.
+// 61 bytes, the rest 255.
 pub struct Taken {
     pub found: bool,
     pub rule: usize,
     pub choice: usize,
-    pub rewriting: [u8; 56],
+    pub rewriting: [u8; RECORD],
 }
 
 // What becomes of the exploration of one member: it is through, and the array is filled so far; or the run is refused

@@ -2,28 +2,29 @@
 ghost use mathlib.Core.Path.{_≡_};
 ghost use Prim.Native.Nat.{_<_};
 ghost use lib.ListN.{drop};
-ghost use Rattle.covering.specs.Record.{desk, questionOf, SoundRecord};
-ghost use Rattle.covering.specs.Buffer.{heldIn};
+ghost use Rattle.covering.specs.Record.{stored, questionOf, SoundRecord};
+ghost use Rattle.covering.specs.Buffer.{heldIn, recordRoom};
 ghost use Rattle.reading.specs.Book.{bookOf};
 ghost use Rattle.reading.specs.Header.{rules as rulesOf};
 ghost use Rattle.reading.specs.Verdict.{SoundBook};
 ghost use Rattle.book.specs.Parts.{StartsAt};
-ghost use Rattle.unification.specs.Choice.{mostChoices};
-ghost use Rattle.lister.specs.Asking.{QuestionIn};
+ghost use Rattle.lister.specs.Listing.{QuestionIn};
+ghost use Rattle.lister.specs.Counts.{mostChoices};
 ghost use Rattle.admit.specs.WorkingArray.{Working};
 ghost use Rattle.explore.specs.Exploring.{OldestIs};
 ghost use Rattle.explore.specs.Taking.{nextAmong, taken};
 use super::Taken;
 use admit::Extent;
 use admit::FIRST;
+use covering::RECORD;
 
-// The record at the front of 56 bytes, the rest 255.
-fn copy_record(member: &[u8]) -> [u8; 56]
-    requires { ⌜ SoundRecord desk (now member) ⌝ }
-    ensures { λ r. ⌜ r ≡ heldIn desk 56 (questionOf desk (now (member .entry))) ⌝ }
+// The record at the front of 61 bytes, the rest 255.
+fn copy_record(member: &[u8]) -> [u8; RECORD]
+    requires { ⌜ SoundRecord stored (now member) ⌝ }
+    ensures { λ r. ⌜ r ≡ heldIn stored recordRoom (questionOf stored (now (member .entry))) ⌝ }
 {
     let width = cover::width(member[0]);
-    let mut copy = [255u8; 56];
+    let mut copy = [255u8; RECORD];
     let mut i = 0;
     while i < width {
         copy[i] = member[i];
@@ -33,7 +34,7 @@ fn copy_record(member: &[u8]) -> [u8; 56]
 }
 
 // The oldest unexplored member.
-pub fn oldest(work: &[u8], filled: Extent) -> [u8; 56]
+pub fn oldest(work: &[u8], filled: Extent) -> [u8; RECORD]
     requires { ⌜ Working (now work) filled × (filled .front < filled .count) ⌝ }
     ensures { λ r. ⌜ OldestIs (now (work .entry)) filled r ⌝ }
 {
@@ -62,7 +63,7 @@ pub fn next_rewriting(
     ensures { λ r. ⌜ (r
         ≡ taken
         (nextAmong
-        (questionOf desk (now (member .entry)))
+        (questionOf stored (now (member .entry)))
         k
         from
         (drop k (bookOf (now (book .entry)) .rules))))
@@ -89,6 +90,6 @@ pub fn next_rewriting(
         found: false,
         rule: 0,
         choice: 0,
-        rewriting: [255u8; 56],
+        rewriting: [255u8; RECORD],
     }
 }

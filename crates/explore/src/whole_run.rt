@@ -3,12 +3,14 @@ ghost use mathlib.Core.Path.{_≡_};
 ghost use Prim.Native.Nat.{_≤_};
 ghost use lib.ListN.{length};
 ghost use Rattle.covering.specs.Form.{form};
-ghost use Rattle.covering.specs.Record.{desk};
-ghost use Rattle.covering.specs.Buffer.{heldIn};
+ghost use Rattle.covering.specs.Record.{stored};
+ghost use Rattle.covering.specs.Buffer.{heldIn, recordRoom};
+ghost use Rattle.covering.specs.Asking.{joined};
 ghost use Rattle.reading.specs.Book.{bookOf};
 ghost use Rattle.reading.specs.Verdict.{SoundBook};
 ghost use Rattle.exploration.specs.Union.{outputSize};
 ghost use Rattle.exploration.specs.Answer.{outcomeOf, Answers};
+ghost use Rattle.exploration.specs.Refusals.{answersOf};
 ghost use Rattle.explore.specs.Exploring.{RanIs};
 use super::Answer;
 use super::Explored;
@@ -18,16 +20,26 @@ use super::exploring::explore;
 use super::taking_up::oldest;
 use super::written::copy_out;
 use super::written::fill_header;
+use super::written::uncount;
 use admit::Extent;
 use admit::FIRST;
 use admit::append;
+use covering::RECORD;
 
 // The form of the book's question.
-fn first_member(book: &[u8]) -> [u8; 56]
+fn first_member(book: &[u8]) -> [u8; RECORD]
     requires { ⌜ SoundBook (now book) ⌝ }
-    ensures { λ r. ⌜ r ≡ heldIn desk 56 (form (bookOf (now (book .entry)) .question)) ⌝ }
+    ensures { λ r. ⌜ r ≡ heldIn stored recordRoom (form (joined (bookOf (now (book .entry)) .question))) ⌝ }
 {
     forming::in_form(book::question(book))
+}
+
+// How many answer records the book's question has, and so each member.
+pub fn answer_records(book: &[u8]) -> u8
+    requires { ⌜ SoundBook (now book) ⌝ }
+    ensures { λ r. ⌜ r ≡ answersOf (now (book .entry)) ⌝ }
+{
+    book::answers(book::read(book)) as u8
 }
 
 // Takes up the oldest unexplored member and explores it, until none is unexplored or the run is refused.
@@ -38,6 +50,7 @@ fn explore_all(book: &[u8], work: &mut [u8]) -> Ran
     let header = book::read(book);
     let rules = header.rules;
     let allowed = header.allowed;
+    let answers = answer_records(book);
     let starts = book::starts(book);
     let first = first_member(book);
     let len = append(work, FIRST, &first);
@@ -54,7 +67,7 @@ fn explore_all(book: &[u8], work: &mut [u8]) -> Ran
         let member = oldest(work, filled);
         taken += 1;
         filled.front += 1;
-        let explored = explore(book, rules, &starts, &member, work, filled);
+        let explored = explore(book, rules, &starts, &member, work, filled, answers);
         match explored {
             Explored::Passed(next) => filled = next,
             Explored::Refused(number) => return Ran::Refused(number, taken),
@@ -78,6 +91,7 @@ fn run_sound(book: &[u8], out: &mut [u8]) -> Answer
     match ran {
         Ran::Complete(filled, explored) => {
             fill_header(&mut work, filled.count, explored, filled.len);
+            uncount(&mut work, filled.count, answer_records(book));
             copy_out(&work, filled.len, out);
             Answer {
                 number: 0,
@@ -91,8 +105,8 @@ fn run_sound(book: &[u8], out: &mut [u8]) -> Answer
     }
 }
 
-// The union of a book's question, or why there is none: 1 to 7 of the output and of the book's bytes, 8 to 10 as the
-// exploration meets them.
+// The union of a book's question, or why there is none: 1 to 7 and 11 of the output and of the book's bytes, 8 to
+// 10 as the exploration meets them.
 pub fn run(book: &[u8], out: &mut [u8]) -> Answer
     ensures { λ r. ⌜ Answers
         (now (book .entry))

@@ -3,7 +3,11 @@ ghost use mathlib.Core.Path.{_≡_};
 ghost use mathlib.Core.List.{_++_};
 ghost use Prim.Native.Nat.{_+_, _≤_, _<_};
 ghost use lib.ListN.{length, take, drop};
+ghost use Rattle.covering.specs.Lists.{_∈_};
+ghost use Rattle.covering.specs.Term.{Question};
 ghost use Rattle.exploration.specs.Union.{wordBytes, firstAt};
+ghost use Rattle.exploration.specs.Held.{heldTotal, heldFrom, Standing};
+ghost use Rattle.explore.specs.Uncounting.{uncountedBytes};
 use admit::FIRST;
 
 // Copies the first len bytes out; the output's other bytes stay.
@@ -39,4 +43,25 @@ pub fn fill_header(work: &mut [u8], count: usize, explored: usize, len: usize)
     put_word(work, 2, explored);
     put_word(work, 4, FIRST);
     put_word(work, 6, len);
+}
+
+// Takes the answer records, one or none in each, out of the counts of the n members that stand from the first on: "Members
+// carry it uncounted after the count byte".
+pub fn uncount(work: &mut [u8], n: usize, answers: u8)
+    requires { ⌜ Standing (now work) firstAt n
+        × (firstAt ≤ length (now work))
+        × ((M : Question) → M ∈ heldFrom (now work) firstAt n → answers ≤ length M) ⌝ }
+    ensures { λ r. ⌜ now (work .exit)
+        ≡ take firstAt (now (work .entry))
+        ++ (uncountedBytes answers (heldFrom (now (work .entry)) firstAt n)
+        ++ drop (heldTotal (heldFrom (now (work .entry)) firstAt n)) (now (work .entry))) ⌝ }
+{
+    let mut at = FIRST;
+    let mut i = 0;
+    while i < n {
+        let count = work[at];
+        work[at] = count - answers;
+        at += cover::width(count);
+        i += 1;
+    }
 }

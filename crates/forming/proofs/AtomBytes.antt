@@ -14,7 +14,7 @@ use lib.ListN.{length, getD, take, drop, set}
 use lib.Seq.{getD-take, getD-drop, getD-set-same, getD-set-other}
 use Rattle.covering.specs.Lists.{_∈_}
 use Rattle.covering.specs.Term.{Term, Atom, Sub, on-term, on-atom, eqAtom}
-use Rattle.covering.specs.Record.{Layout, desk, size, termOf, argsAt, atomAt, atomsAt, isTerm, unused, usedFirst}
+use Rattle.covering.specs.Record.{Layout, stored, size, termOf, argsAt, atomAt, atomsAt, isTerm, unused, usedFirst}
 use Rattle.covering.specs.Record.{isAtom, areAtoms, byteOf, placesBytes, atomBytes, AtomFits}
 use Rattle.covering.specs.Buffer.{AtomIn}
 use Rattle.forming.specs.Building.{subOf}
@@ -103,15 +103,15 @@ module _ (B : List ℕ) where
       go k lt false e t below = inr (unused-at (suc w) i k t lt)
 
 -- a byte of a sound atom of the desk, after the first, is a variable's, a constant's or 255
-pub place-byte : (B : List ℕ) (i j : ℕ) → T (isAtom desk B i) → 0 < j → j < 5 → 64 ≤ getD B (i + j) 0
+pub place-byte : (B : List ℕ) (i j : ℕ) → T (isAtom stored B i) → 0 < j → j < 5 → 64 ≤ getD B (i + j) 0
     → 128 ≤ getD B (i + j) 0
-place-byte B i (suc k) t pos lt le = go (place-is B desk 4 (i + 1) k (atom-used desk B i t) (omega arith))
+place-byte B i (suc k) t pos lt le = go (place-is B stored 4 (i + 1) k (atom-used stored B i t) (omega arith))
   where
     e : i + suc k ≡ i + 1 + k
     e = further i k
 
-    go : T (isTerm desk (getD B (i + 1 + k) 0)) ⊎ (getD B (i + 1 + k) 0 ≡ 255) → 128 ≤ getD B (i + suc k) 0
-    go (inl u) = rw e (term-constant desk _ u (rw e at le))
+    go : T (isTerm stored (getD B (i + 1 + k) 0)) ⊎ (getD B (i + 1 + k) 0 ≡ 255) → 128 ≤ getD B (i + suc k) 0
+    go (inl u) = rw e (term-constant stored _ u (rw e at le))
     go (inr f) = rw (e, f) (omega arith)
 
 free-at : (w k : ℕ) → k < w → getD (placesBytes w []) k 0 ≡ 255

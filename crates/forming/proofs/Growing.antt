@@ -12,12 +12,12 @@ use lib.ListN.{length, getD, length-append}
 use Rattle.covering.specs.Lists.{_∈_}
 use Rattle.covering.specs.Term.{Atom, Question, Sub, on-atom, on-question, terms, eqAtom}
 use Rattle.covering.specs.Form.{dedup, firsts, numbering}
-use Rattle.covering.specs.Record.{Layout, desk, size, questionOf, AtomFits, Fits, SoundRecord}
+use Rattle.covering.specs.Record.{Layout, stored, size, questionOf, AtomFits, Fits, SoundRecord}
 use Rattle.covering.specs.Buffer.{heldIn, RoomLeft}
 use Rattle.forming.specs.Building.{has, added, newNumber, subOf}
 use Rattle.covering.proofs.Lists.{map-append}
 use Rattle.covering.proofs.Tests.{either}
-use Rattle.covering.proofs.RoundTrip.{TellsApart, desk-apart}
+use Rattle.covering.proofs.RoundTrip.{TellsApart, stored-apart}
 use Rattle.covering.proofs.Padded.{held-question, held-room, held-sound}
 use Rattle.forming.proofs.Leftward.{added-old, added-new}
 use Rattle.covering.proofs.Fitting.{sound-fits, dedup-fits, renumber-fits}
@@ -120,17 +120,17 @@ module _ (L : Layout) (ap-L : TellsApart L) (some-place : 1 ≤ L .places) (n : 
       ∙ held-question L n (dedup (questionOf L B)) ap-L (dedup-fits L (questionOf L B) fits .each)
 
 -- the table of a sound record's new numbers: an atom on it is that atom renumbered, and fits
-module _ (B : List ℕ) (s : SoundRecord desk B) (table : List ℕ)
-    (each : (n : ℕ) → n < 64 → getD table n 0 ≡ newNumber (firsts (terms (questionOf desk B))) n) (a : Atom)
-    (m : a ∈ questionOf desk B) where
-  pub table-numbers : on-atom (subOf table) a ≡ on-atom (numbering (questionOf desk B)) a
-  table-numbers = on-table (questionOf desk B) table (sound-fits desk desk-apart B (omega arith) s) each a m
+module _ (B : List ℕ) (s : SoundRecord stored B) (table : List ℕ)
+    (each : (n : ℕ) → n < 64 → getD table n 0 ≡ newNumber (firsts (terms (questionOf stored B))) n) (a : Atom)
+    (m : a ∈ questionOf stored B) where
+  pub table-numbers : on-atom (subOf table) a ≡ on-atom (numbering (questionOf stored B)) a
+  table-numbers = on-table (questionOf stored B) table (sound-fits stored stored-apart B (omega arith) s) each a m
 
-  pub table-fits : AtomFits desk (on-atom (subOf table) a)
+  pub table-fits : AtomFits stored (on-atom (subOf table) a)
   table-fits =
-      let f = sound-fits desk desk-apart B (omega arith) s in
-      let g = renumber-fits desk (questionOf desk B) f (omega arith) in
+      let f = sound-fits stored stored-apart B (omega arith) s in
+      let g = renumber-fits stored (questionOf stored B) f (omega arith) in
       subst
-      (AtomFits desk)
+      (AtomFits stored)
       (sym table-numbers)
-      (g .each _ (Memᴰ·map (on-atom (numbering (questionOf desk B))) m))
+      (g .each _ (Memᴰ·map (on-atom (numbering (questionOf stored B))) m))

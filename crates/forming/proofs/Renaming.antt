@@ -13,7 +13,7 @@ use lib.Seq.{getD-set-same, getD-set-other}
 use Rattle.covering.specs.Lists.{_∈_}
 use Rattle.covering.specs.Term.{Term, var, con, Atom, Question, on-term, on-atom, terms}
 use Rattle.covering.specs.Form.{firsts, index, numbering}
-use Rattle.covering.specs.Record.{desk, termOf, argsAt, TermFits, Fits}
+use Rattle.covering.specs.Record.{stored, termOf, argsAt, TermFits, Fits}
 use Rattle.forming.specs.Building.{has, seen, allSeen, newNumber, subOf, NumberTable}
 use Rattle.covering.proofs.Lists.{any-in, any-out}
 use Rattle.covering.proofs.Tests.{either, cond-yes, true→T, T→true, false→no}
@@ -131,7 +131,7 @@ module _ (S table : List ℕ) (given t : ℕ) (k : NumberTable S table given) wh
           getD-set-other table t n given 0 (λ r. eqb-false t n q (sym r)) ∙ k .each n lt ∙ sym (number-kept S t n q)
 
 -- the whole table puts its number for each variable
-pub on-table : (A : Question) (table : List ℕ) → Fits desk A
+pub on-table : (A : Question) (table : List ℕ) → Fits stored A
     → ((n : ℕ) → n < 64 → getD table n 0 ≡ newNumber (firsts (terms A)) n)
     → (a : Atom) → a ∈ A → on-atom (subOf table) a ≡ on-atom (numbering A) a
 unfolding subOf
@@ -140,13 +140,13 @@ on-table A table f each a m = on-atom-same (subOf table) (numbering A) a (λ t k
     S : List ℕ
     S = firsts (terms A)
 
-    go : (t : Term) → t ∈ a .args → TermFits desk t → on-term (subOf table) t ≡ on-term (numbering A) t
+    go : (t : Term) → t ∈ a .args → TermFits stored t → on-term (subOf table) t ≡ on-term (numbering A) t
     go (con c) k fits = refl
     go (var n) k fits =
         let there = firsts-in (terms A) n (terms-in A m k) in
         let low = index-below S n there in
         ap termOf (each n fits ∙ number-there S n (has-in S n there))
-        ∙ term-var (index S n) (omega (arith, variables-few desk A f, f .most))
+        ∙ term-var (index S n) (omega (arith, variables-few stored A f, f .most))
 
 -- the terms of an atom, of whose w places j are passed
 module _ (B : List ℕ) (i j w : ℕ) (lt : j < w) (S : List ℕ) where

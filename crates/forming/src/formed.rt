@@ -1,13 +1,14 @@
 // The form of a member record: equal atoms are dropped but for the first, then variables are numbered 0, 1, .. by
-// first appearance. A record is built at the front of 56 bytes, the rest 255.
+// first appearance. A record is built at the front of 61 bytes, the rest 255.
+use covering::RECORD;
 ghost use mathlib.Core.Path.{_≡_};
 ghost use mathlib.Core.List.{List, [], _∷_, _++_};
 ghost use Prim.Native.Nat.{ℕ, _+_, _≤_, _<_};
 ghost use lib.ListN.{getD};
 ghost use Rattle.covering.specs.Term.{on-term, on-atom, eqAtom, terms};
 ghost use Rattle.covering.specs.Form.{dedup, firsts, renumber, form};
-ghost use Rattle.covering.specs.Record.{desk, termOf, byteOf, atomAt, questionOf, atomBytes, AtomFits, SoundRecord};
-ghost use Rattle.covering.specs.Buffer.{heldIn, AtomIn, AtomsIn, RoomLeft};
+ghost use Rattle.covering.specs.Record.{stored, termOf, byteOf, atomAt, questionOf, atomBytes, AtomFits, SoundRecord};
+ghost use Rattle.covering.specs.Buffer.{heldIn, AtomIn, AtomsIn, RoomLeft, recordRoom};
 ghost use Rattle.forming.specs.Building.{has, added, seen, allSeen, newNumber, subOf, NumberTable};
 
 // The new numbers given so far, 255 for none yet, and how many there are.
@@ -17,18 +18,18 @@ struct Numbers {
 }
 
 // A record with no atom yet.
-pub fn no_atoms() -> [u8; 56]
-    ensures { λ r. ⌜ r ≡ heldIn desk 56 [] ⌝ }
+pub fn no_atoms() -> [u8; RECORD]
+    ensures { λ r. ⌜ r ≡ heldIn stored recordRoom [] ⌝ }
 {
-    let mut kept = [255u8; 56];
+    let mut kept = [255u8; RECORD];
     kept[0] = 0;
     kept
 }
 
 // Whether the atom of first at i is the atom of second at k: the same five bytes.
 fn same_atom(first: &[u8], second: &[u8], i: usize, k: usize) -> bool
-    requires { ⌜ AtomIn desk (now first) i × AtomIn desk (now second) k ⌝ }
-    ensures { λ r. ⌜ r ≡ eqAtom (atomAt desk (now (first .entry)) i) (atomAt desk (now (second .entry)) k) ⌝ }
+    requires { ⌜ AtomIn stored (now first) i × AtomIn stored (now second) k ⌝ }
+    ensures { λ r. ⌜ r ≡ eqAtom (atomAt stored (now (first .entry)) i) (atomAt stored (now (second .entry)) k) ⌝ }
 {
     let mut j = 0;
     while j < 5 {
@@ -42,9 +43,9 @@ fn same_atom(first: &[u8], second: &[u8], i: usize, k: usize) -> bool
 
 // Whether the atom of from at `at` is among the atoms of kept.
 fn has_atom(kept: &[u8], from: &[u8], at: usize) -> bool
-    requires { ⌜ AtomsIn desk (now kept) 1 (getD (now kept) 0 0) × AtomIn desk (now from) at ⌝ }
+    requires { ⌜ AtomsIn stored (now kept) 1 (getD (now kept) 0 0) × AtomIn stored (now from) at ⌝ }
     ensures { λ r. ⌜ r
-        ≡ has eqAtom (questionOf desk (now (kept .entry))) (atomAt desk (now (from .entry)) at) ⌝ }
+        ≡ has eqAtom (questionOf stored (now (kept .entry))) (atomAt stored (now (from .entry)) at) ⌝ }
 {
     let mut i = 1;
     let mut left = kept[0] as usize;
@@ -59,12 +60,12 @@ fn has_atom(kept: &[u8], from: &[u8], at: usize) -> bool
 }
 
 // The record with the atom of from at `at` after its own atoms. From may be any bytes that have an atom there.
-pub fn put_atom(kept: [u8; 56], from: &[u8], at: usize) -> [u8; 56]
-    requires { ⌜ RoomLeft desk 56 kept × AtomIn desk (now from) at ⌝ }
-    ensures { λ r. ⌜ r ≡ heldIn desk 56 (questionOf desk kept ++ atomAt desk (now (from .entry)) at ∷ []) ⌝ }
+pub fn put_atom(kept: [u8; RECORD], from: &[u8], at: usize) -> [u8; RECORD]
+    requires { ⌜ RoomLeft stored recordRoom kept × AtomIn stored (now from) at ⌝ }
+    ensures { λ r. ⌜ r ≡ heldIn stored recordRoom (questionOf stored kept ++ atomAt stored (now (from .entry)) at ∷ []) ⌝ }
 {
     let n = kept[0];
-    let start = 1 + (n as usize) * 5;
+    let start = cover::width(n);
     let mut more = kept;
     more[0] = n + 1;
     let mut byte = 0;
@@ -76,9 +77,9 @@ pub fn put_atom(kept: [u8; 56], from: &[u8], at: usize) -> [u8; 56]
 }
 
 // The same where the atom is not among the record's own; else the record as it is.
-fn put_new(kept: [u8; 56], from: &[u8], at: usize) -> [u8; 56]
-    requires { ⌜ RoomLeft desk 56 kept × AtomIn desk (now from) at ⌝ }
-    ensures { λ r. ⌜ r ≡ heldIn desk 56 (added eqAtom (questionOf desk kept) (atomAt desk (now (from .entry)) at)) ⌝ }
+fn put_new(kept: [u8; RECORD], from: &[u8], at: usize) -> [u8; RECORD]
+    requires { ⌜ RoomLeft stored recordRoom kept × AtomIn stored (now from) at ⌝ }
+    ensures { λ r. ⌜ r ≡ heldIn stored recordRoom (added eqAtom (questionOf stored kept) (atomAt stored (now (from .entry)) at)) ⌝ }
 {
     if has_atom(&kept, from, at) {
         return kept;
@@ -87,9 +88,9 @@ fn put_new(kept: [u8; 56], from: &[u8], at: usize) -> [u8; 56]
 }
 
 // The record with equal atoms dropped but for the first.
-fn drop_equal(member: &[u8]) -> [u8; 56]
-    requires { ⌜ SoundRecord desk (now member) ⌝ }
-    ensures { λ r. ⌜ r ≡ heldIn desk 56 (dedup (questionOf desk (now (member .entry)))) ⌝ }
+fn drop_equal(member: &[u8]) -> [u8; RECORD]
+    requires { ⌜ SoundRecord stored (now member) ⌝ }
+    ensures { λ r. ⌜ r ≡ heldIn stored recordRoom (dedup (questionOf stored (now (member .entry)))) ⌝ }
 {
     let mut kept = no_atoms();
     let n = member[0] as usize;
@@ -132,11 +133,11 @@ fn number_term(table: [u8; 64], count: u8, t: u8) -> Numbers
 
 // Numbers the variables of the atom of from at `at`, in order.
 fn number_atom(table: [u8; 64], count: u8, from: &[u8], at: usize) -> Numbers
-    requires { ⌜ AtomIn desk (now from) at × (count + 4 ≤ 64) ⌝ }
+    requires { ⌜ AtomIn stored (now from) at × (count + 4 ≤ 64) ⌝ }
     ensures { λ r. ⌜ (r .count ≤ count + 4)
         × ((S : List ℕ)
         → NumberTable S table count
-        → NumberTable (allSeen S (atomAt desk (now (from .entry)) at .args)) (r .table) (r .count)) ⌝ }
+        → NumberTable (allSeen S (atomAt stored (now (from .entry)) at .args)) (r .table) (r .count)) ⌝ }
 {
     let mut known = table;
     let mut given = count;
@@ -162,10 +163,10 @@ fn number_atom(table: [u8; 64], count: u8, from: &[u8], at: usize) -> Numbers
 
 // The new number of each variable of the record, by first appearance, and 255 for any other.
 fn numbers_of(member: &[u8]) -> [u8; 64]
-    requires { ⌜ SoundRecord desk (now member) ⌝ }
+    requires { ⌜ SoundRecord stored (now member) ⌝ }
     ensures { λ r. ⌜ ((n : ℕ)
         → n < 64
-        → getD r n 0 ≡ newNumber (firsts (terms (questionOf desk (now (member .entry))))) n) ⌝ }
+        → getD r n 0 ≡ newNumber (firsts (terms (questionOf stored (now (member .entry))))) n) ⌝ }
 {
     let mut table = [255u8; 64];
     let mut count = 0;
@@ -194,8 +195,8 @@ fn replaced(table: [u8; 64], t: u8) -> u8
 
 // The bytes of the atom of from at `at`, each variable replaced by the term whose byte the table has for it.
 fn atom_on(table: [u8; 64], from: &[u8], at: usize) -> [u8; 5]
-    requires { ⌜ AtomIn desk (now from) at ⌝ }
-    ensures { λ r. ⌜ r ≡ atomBytes desk (on-atom (subOf table) (atomAt desk (now (from .entry)) at)) ⌝ }
+    requires { ⌜ AtomIn stored (now from) at ⌝ }
+    ensures { λ r. ⌜ r ≡ atomBytes stored (on-atom (subOf table) (atomAt stored (now (from .entry)) at)) ⌝ }
 {
     let mut atom = [255u8; 5];
     atom[0] = from[at];
@@ -208,24 +209,24 @@ fn atom_on(table: [u8; 64], from: &[u8], at: usize) -> [u8; 5]
 }
 
 // The record with that atom, its variables so replaced, after its own.
-pub fn put_on(kept: [u8; 56], table: [u8; 64], from: &[u8], at: usize) -> [u8; 56]
-    requires { ⌜ RoomLeft desk 56 kept
-        × AtomIn desk (now from) at
-        × AtomFits desk (on-atom (subOf table) (atomAt desk (now from) at)) ⌝ }
+pub fn put_on(kept: [u8; RECORD], table: [u8; 64], from: &[u8], at: usize) -> [u8; RECORD]
+    requires { ⌜ RoomLeft stored recordRoom kept
+        × AtomIn stored (now from) at
+        × AtomFits stored (on-atom (subOf table) (atomAt stored (now from) at)) ⌝ }
     ensures { λ r. ⌜ r
         ≡ heldIn
-        desk
-        56
-        (questionOf desk kept ++ on-atom (subOf table) (atomAt desk (now (from .entry)) at) ∷ []) ⌝ }
+        stored
+        recordRoom
+        (questionOf stored kept ++ on-atom (subOf table) (atomAt stored (now (from .entry)) at) ∷ []) ⌝ }
 {
     let atom = atom_on(table, from, at);
     put_atom(kept, &atom, 0)
 }
 
 // The record with its variables numbered by first appearance.
-fn renumbered(member: &[u8]) -> [u8; 56]
-    requires { ⌜ SoundRecord desk (now member) ⌝ }
-    ensures { λ r. ⌜ r ≡ heldIn desk 56 (renumber (questionOf desk (now (member .entry)))) ⌝ }
+fn renumbered(member: &[u8]) -> [u8; RECORD]
+    requires { ⌜ SoundRecord stored (now member) ⌝ }
+    ensures { λ r. ⌜ r ≡ heldIn stored recordRoom (renumber (questionOf stored (now (member .entry)))) ⌝ }
 {
     let table = numbers_of(member);
     let mut done = no_atoms();
@@ -241,9 +242,9 @@ fn renumbered(member: &[u8]) -> [u8; 56]
 }
 
 // The form of the record: equal atoms dropped but for the first, then variables numbered.
-pub fn in_form(member: [u8; 56]) -> [u8; 56]
-    requires { ⌜ SoundRecord desk member ⌝ }
-    ensures { λ r. ⌜ r ≡ heldIn desk 56 (form (questionOf desk member)) ⌝ }
+pub fn in_form(member: [u8; RECORD]) -> [u8; RECORD]
+    requires { ⌜ SoundRecord stored member ⌝ }
+    ensures { λ r. ⌜ r ≡ heldIn stored recordRoom (form (questionOf stored member)) ⌝ }
 {
     let kept = drop_equal(&member);
     renumbered(&kept)

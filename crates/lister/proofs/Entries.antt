@@ -67,12 +67,12 @@ module _ (Good : Term → Type 0) where
       go (some k) q r below =
           below k (join-good m _ _ k h (look-good m (p .0) h (ends .0)) (look-good m (p .1) h (ends .1)) q) r
 
-  -- the ends of the pairs of two atoms: their terms, and the relations' numbers as constants
+  -- the ends of the pairs of two lists of terms
   never-ends : Good (con 0) → Good (con 1) → EntriesEnd never
   never-ends g h p (List·Memᴰ·head e) = (subst (λ q. Good (q .0)) (sym e) g, subst (λ q. Good (q .1)) (sym e) h)
   never-ends g h p (List·Memᴰ·tail m) = absurd (List·Memᴰ·not-nil m)
 
-  place-ends : Good (con 0) → Good (con 1) → (ts us : List Term) → ((t : Term) → t ∈ ts → Good t)
+  pub place-ends : Good (con 0) → Good (con 1) → (ts us : List Term) → ((t : Term) → t ∈ ts → Good t)
       → ((t : Term) → t ∈ us → Good t) → EntriesEnd (placePairs ts us)
   place-ends g h [] [] f k p m = absurd (List·Memᴰ·not-nil m)
   place-ends g h [] (u ∷ us) f k p m = never-ends g h p m
@@ -84,9 +84,12 @@ module _ (Good : Term → Type 0) where
   place-ends g h (t ∷ ts) (u ∷ us) f k p (List·Memᴰ·tail m) =
       place-ends g h ts us (λ x i. f x (List·Memᴰ·tail i)) (λ x i. k x (List·Memᴰ·tail i)) p m
 
-  pub atom-ends : ((c : ℕ) → c ≡ 0 → Good (con c)) → Good (con 1) → (a b : Atom) → Good (con (a .rel))
-      → Good (con (b .rel))
-      → ((t : Term) → t ∈ a .args → Good t) → ((t : Term) → t ∈ b .args → Good t) → EntriesEnd (atomPairs a b)
-  atom-ends g h a b ga gb f k p (List·Memᴰ·head e) =
-      (subst (λ q. Good (q .0)) (sym e) ga, subst (λ q. Good (q .1)) (sym e) gb)
-  atom-ends g h a b ga gb f k p (List·Memᴰ·tail m) = place-ends (g 0 refl) h (a .args) (b .args) f k p m
+-- the relations' numbers, put together as constants, bring no entry
+pub places-alone : (a b : Atom) (m n : Table) → unifyTable (atomPairs a b) m ≡ some n
+    → unifyTable (placePairs (a .args) (b .args)) m ≡ some n
+places-alone a b m n e = go (eqb (a .rel) (b .rel)) e
+  where
+    go : (x : Bool) → bind (cond x (some m) none) (λ k. unifyTable (placePairs (a .args) (b .args)) k) ≡ some n
+        → unifyTable (placePairs (a .args) (b .args)) m ≡ some n
+    go true q = q
+    go false q = absurd (none≢some q)

@@ -8,36 +8,38 @@ use Prim.Native.Nat.{ℕ, _≤_, _<_}
 use native.Mathlib.Omega.{arith}
 use lib.ListN.{length, getD}
 use Rattle.covering.specs.Term.{Question}
-use Rattle.covering.specs.Record.{desk, questionOf, Fits, SoundRecord}
+use Rattle.covering.specs.Record.{stored, questionOf, Fits, SoundRecord}
 use Rattle.covering.proofs.Wider.{Wider, fits-wider}
 use Rattle.covering.proofs.Lengths.{count-atoms, question-count}
-use Rattle.covering.specs.Buffer.{heldIn}
+use Rattle.covering.specs.Buffer.{heldIn, recordRoom}
+use Rattle.covering.specs.Asking.{joined}
 use Rattle.covering.proofs.Padded.{held-sound, held-written}
 use Rattle.reading.proofs.Reading.{rule-is}
 use Rattle.reading.proofs.Fits.{question-record}
-use Rattle.lister.proofs.RewritingBytes.{book-desk, book-apart}
+use Rattle.lister.proofs.RewritingBytes.{book-stored, book-apart}
 use Rattle.book.specs.declared.Parts.{Parts}
 use Rattle.reading.specs.Header.{rules, atoms}
 use Rattle.reading.specs.Book.{ruleAt, ruleStart, bookOf, layoutOf}
 use Rattle.reading.specs.Verdict.{SoundBook}
 use Rattle.book.specs.Parts.{partsAt}
-use Rattle.reading.proofs.SoundBook.{sound-header, sound-rule, sound-question, sound-body, sound-head, BookRoom}
+use Rattle.reading.proofs.SoundBook.{sound-header, sound-rule, sound-body, sound-head, BookRoom}
+use Rattle.reading.proofs.SoundQuestion.{records-few, sound-question}
 use Rattle.lister.specs.declared.Found.{Found}
-use Rattle.unification.specs.Choice.{mostChoices}
 use Rattle.unification.specs.Step.{next}
 use Rattle.unify.specs.InBytes.{inBook, ruleIn}
-use Rattle.lister.specs.Asking.{ruleOf, RuleIn, QuestionIn, foundOf}
+use Rattle.lister.specs.Listing.{ruleOf, RuleIn, QuestionIn, foundOf}
+use Rattle.lister.specs.Counts.{mostChoices}
 use Rattle.unification.proofs.Following.{next-listed, listed-below}
 use Rattle.lister.proofs.Asked.{count-few}
 
 -- the record of a question that keeps to the book's bounds can be handed to the lister
-pub held-in : (M : Question) → Fits inBook M → QuestionIn (heldIn desk 56 M)
-held-in M fits = subst QuestionIn (held-written inBook desk book-desk 56 M) own
+pub held-in : (M : Question) → Fits inBook M → QuestionIn (heldIn stored recordRoom M)
+held-in M fits = subst QuestionIn (held-written inBook stored book-stored recordRoom M) own
   where
-    s : SoundRecord inBook (heldIn inBook 56 M)
-    s = held-sound inBook 56 M book-apart fits (omega (arith, fits .most))
+    s : SoundRecord inBook (heldIn inBook recordRoom M)
+    s = held-sound inBook recordRoom M book-apart fits (omega (arith, fits .most))
 
-    own : QuestionIn (heldIn inBook 56 M)
+    own : QuestionIn (heldIn inBook recordRoom M)
     own = record { atoms = record { fits = s .fits; sound = s .atoms }; few = s .most }
 
 module _ (B : List ℕ) (s : SoundBook B) where
@@ -45,14 +47,15 @@ module _ (B : List ℕ) (s : SoundBook B) where
   own-wider =
       record {
         relations = sound-header B s .few-relations;
+        answers = λ t. tt;
         places = refl;
         variables = omega arith;
         constants = sound-header B s .few-constants;
       }
 
   -- the record of a question that keeps to this book's own bounds
-  pub member-in : (M : Question) → Fits (layoutOf B) M → QuestionIn (heldIn desk 56 M)
-  member-in M m = held-in M (fits-wider (layoutOf B) inBook own-wider (omega arith) m)
+  pub member-in : (M : Question) → Fits (layoutOf B) M → QuestionIn (heldIn stored recordRoom M)
+  member-in M m = held-in M (fits-wider (layoutOf B) inBook own-wider (omega (arith, records-few B)) m)
 
   room : BookRoom B inBook
   room =
@@ -79,15 +82,16 @@ module _ (B : List ℕ) (s : SoundBook B) where
               fits = omega (arith, r .ends, q .ends);
               sound = sound-head B s inBook room k l;
             };
-        some-body = r .some-body;
         few-body = r .few-body;
         some-head = r .some-head;
         few-head = r .few-head;
       }
 
   -- the question's record, as `question` gives it
-  pub question-in : (R : List ℕ) → R ≡ heldIn desk 56 (bookOf B .question) → QuestionIn R
-  question-in R e = subst QuestionIn (sym e) (held-in (bookOf B .question) (question-record B inBook room s (omega arith)))
+  pub question-in : (R : List ℕ) → R ≡ heldIn stored recordRoom (joined (bookOf B .question)) → QuestionIn R
+  question-in R e =
+      subst QuestionIn (sym e)
+      (held-in (joined (bookOf B .question)) (question-record B inBook room s (λ t. tt) (omega (arith, records-few B))))
 
 -- the rule that `next` is asked about is the book's
 pub rule-asked : (B : List ℕ) (s : ℕ) → ruleOf B (partsAt B s) ≡ ruleAt B s
@@ -97,16 +101,16 @@ rule-asked B s = sym (rule-is B s)
 module _ (Q B : List ℕ) (p : Parts) (q : QuestionIn Q) (r : RuleIn B p) (from : ℕ) where
   heads : length (ruleOf B p .head) ≡ p .heads
   unfolding ruleIn
-  heads = count-atoms desk B (p .heads) (p .head)
+  heads = count-atoms stored B (p .heads) (p .head)
 
-  long : length (questionOf desk Q) ≡ getD Q 0 0
-  long = question-count desk Q
+  long : length (questionOf stored Q) ≡ getD Q 0 0
+  long = question-count stored Q
 
-  pub found-within : (f : Found) → f ≡ foundOf (next 32 (ruleOf B p) (questionOf desk Q) from) → f .found ≡ true
+  pub found-within : (f : Found) → f ≡ foundOf (next 32 (ruleOf B p) (questionOf stored Q) from) → f .found ≡ true
       → (from ≤ f .choice) × (f .choice < mostChoices)
-  found-within f e t = go (next 32 (ruleOf B p) (questionOf desk Q) from) refl e
+  found-within f e t = go (next 32 (ruleOf B p) (questionOf stored Q) from) refl e
     where
-      go : (o : Option (ℕ × Question)) → next 32 (ruleOf B p) (questionOf desk Q) from ≡ o → f ≡ foundOf o
+      go : (o : Option (ℕ × Question)) → next 32 (ruleOf B p) (questionOf stored Q) from ≡ o → f ≡ foundOf o
           → (from ≤ f .choice) × (f .choice < mostChoices)
       go none o a =
           let z : true ≡ false = sym t ∙ ap (λ (x : Found). x .found) a in
@@ -114,9 +118,9 @@ module _ (Q B : List ℕ) (p : Parts) (q : QuestionIn Q) (r : RuleIn B p) (from 
           absurd (omega arith)
       go (some x) o a =
           let c : f .choice ≡ x .0 = ap (λ (y : Found). y .choice) a in
-          let m = next-listed 32 (ruleOf B p) (questionOf desk Q) from x o in
-          let b = listed-below 32 (ruleOf B p) (questionOf desk Q) (x .0) (x .1) (m .0) in
+          let m = next-listed 32 (ruleOf B p) (questionOf stored Q) from x o in
+          let b = listed-below 32 (ruleOf B p) (questionOf stored Q) (x .0) (x .1) (m .0) in
           let h =
-          count-few (length (ruleOf B p .head)) (length (questionOf desk Q)) (omega (arith, heads, r .few-head))
+          count-few (length (ruleOf B p .head)) (length (questionOf stored Q)) (omega (arith, heads, r .few-head))
           (omega (arith, long, q .few)) in
           (omega (arith, c, m .1), omega (arith, c, b, h))

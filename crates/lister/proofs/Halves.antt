@@ -4,17 +4,17 @@ use mathlib.Core.List.{List, [], _∷_, map}
 use mathlib.Core.List.{List·Memᴰ·cases-cons, List·Memᴰ·not-nil, List·Memᴰ·head, List·Memᴰ·tail}
 use mathlib.Core.Bool.{true, false}
 use mathlib.Core.Logic.{_⊎_, inl, inr}
-use Prim.Native.Nat.{ℕ, zero, suc, suc, _+_, _-_, _≤_, _<_}
+use Prim.Native.Nat.{ℕ, zero, suc, suc, _+_, _≤_, _<_}
 use native.Mathlib.Omega.{arith}
 use borrow.Author.Tests.{eqb-true, eqb-false, ltb-true, ltb-false}
 use lib.Dec.{eqb, ltb}
 use lib.ListN.{length, getD, set, length-set}
 use lib.Seq.{getD-set-same, getD-set-other}
 use Rattle.covering.specs.Lists.{_∈_}
-use Rattle.covering.specs.Record.{desk, size, termOf, TermFits}
+use Rattle.covering.specs.Record.{stored, size, termOf, TermFits}
 use Rattle.covering.proofs.Tests.{either}
 use Rattle.unify.specs.InBytes.{classesOf}
-use Rattle.lister.specs.Asking.{ClassesFit, UpperHalf}
+use Rattle.lister.specs.Listing.{ClassesFit, UpperHalf}
 
 -- each entry of a table stands for a class
 pub in-classes : (m : List ℕ) (n : ℕ) → n < length m → termOf (getD m n 0) ∈ classesOf m
@@ -56,24 +56,24 @@ half-all table upper i e f =
     }
 
 -- a table whose every entry fits
-pub fits-all : (m : List ℕ) → ((n : ℕ) → n < length m → TermFits desk (termOf (getD m n 0))) → ClassesFit m
+pub fits-all : (m : List ℕ) → ((n : ℕ) → n < length m → TermFits stored (termOf (getD m n 0))) → ClassesFit m
 unfolding classesOf
 fits-all [] f t i = absurd (List·Memᴰ·not-nil i)
 fits-all (x ∷ m) f t i = go (List·Memᴰ·cases-cons i) (λ j. fits-all m (λ n h. f (suc n) (omega arith)) t j)
   where
-    go : (t ≡ termOf x) ⊎ (t ∈ map termOf m) → (t ∈ map termOf m → TermFits desk t) → TermFits desk t
-    go (inl e) below = subst (TermFits desk) (sym e) (f 0 (omega arith))
+    go : (t ≡ termOf x) ⊎ (t ∈ map termOf m) → (t ∈ map termOf m → TermFits stored t) → TermFits stored t
+    go (inl e) below = subst (TermFits stored) (sym e) (f 0 (omega arith))
     go (inr j) below = below j
 
 pub upper-fits : (table upper : List ℕ) → ClassesFit table → length table ≡ 64 → UpperHalf table upper
     → ClassesFit upper
 upper-fits table upper fit long u = fits-all upper (λ n h. go n (omega (arith, u .size)) (either (ltb n 32)))
   where
-    at : (n : ℕ) → n < 64 → TermFits desk (termOf (getD table n 0))
+    at : (n : ℕ) → n < 64 → TermFits stored (termOf (getD table n 0))
     at n h = fit (termOf (getD table n 0)) (in-classes table n (omega arith))
 
-    go : (n : ℕ) → n < 64 → (ltb n 32 ≡ true) ⊎ (ltb n 32 ≡ false) → TermFits desk (termOf (getD upper n 0))
+    go : (n : ℕ) → n < 64 → (ltb n 32 ≡ true) ⊎ (ltb n 32 ≡ false) → TermFits stored (termOf (getD upper n 0))
     go n h (inl e) =
         let lt = ltb-true n 32 e in
-        subst (λ b. TermFits desk (termOf b)) (sym (u .moved n lt)) (at (n + 32) (omega arith))
-    go n h (inr e) = subst (λ b. TermFits desk (termOf b)) (sym (u .others n (ltb-false n 32 e))) (at n h)
+        subst (λ b. TermFits stored (termOf b)) (sym (u .moved n lt)) (at (n + 32) (omega arith))
+    go n h (inr e) = subst (λ b. TermFits stored (termOf b)) (sym (u .others n (ltb-false n 32 e))) (at n h)

@@ -11,6 +11,7 @@ pub mod Halves
 pub mod RewritingBytes
 pub mod LeftAtoms
 pub mod Asked
+pub mod Answers
 -- a sound book gives what the lister asks for; any two results of a contract are equal
 pub mod FromBook
 pub mod Determined

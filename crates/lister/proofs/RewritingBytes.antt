@@ -10,129 +10,136 @@ use lib.Dec.{T}
 use lib.ListN.{length, getD, length-map, length-append}
 use Rattle.covering.specs.Lists.{_∈_}
 use Rattle.covering.specs.Term.{Term, var, con, Atom, Question, Sub, on-term, on-atom, on-question, comp}
-use Rattle.covering.specs.Record.{desk, size, termOf, atomAt, atomsAt, questionOf, areAtoms, TermFits, AtomFits}
+use Rattle.covering.specs.Record.{stored, size, termOf, atomAt, atomsAt, questionOf, areAtoms, TermFits, AtomFits}
 use Rattle.covering.specs.Record.{SoundRecord}
-use Rattle.covering.specs.Buffer.{heldIn, AtomIn, AtomsIn, RoomLeft}
+use Rattle.covering.specs.Buffer.{heldIn, AtomIn, AtomsIn, RoomLeft, recordRoom}
 use Rattle.forming.specs.Building.{subOf}
 use Rattle.covering.proofs.Lists.{map-same, map-append}
 use Rattle.covering.proofs.Terms.{on-atom-comp, on-atom-same}
 use Rattle.covering.proofs.Places.{atoms-none, atoms-more, sound-more, question-at}
-use Rattle.covering.proofs.RoundTrip.{TellsApart, desk-apart}
+use Rattle.covering.proofs.RoundTrip.{TellsApart, stored-apart}
 use Rattle.covering.proofs.Padded.{held-count, held-question, held-atoms, held-sound}
 use Rattle.covering.proofs.Lengths.{count-atoms, question-count}
 use Rattle.covering.proofs.Fitting.{atom-fits, atoms-fit}
 use Rattle.forming.proofs.Growing.{Grows, grows-question, grows-room, grows-put}
 use Rattle.forming.proofs.AtomBytes.{table-at}
-use Rattle.covering.proofs.Wider.{Wider, atom-means, atoms-mean}
+use Rattle.covering.proofs.Wider.{Wider, atom-means, atoms-mean, atom-fits-wider}
 use Rattle.covering.proofs.Within.{in-wider}
 use Rattle.book.specs.declared.Parts.{Parts}
 use Rattle.unification.specs.Step.{up, move, rewriting}
 use Rattle.unify.specs.Table.{tabled}
 use Rattle.unify.specs.InBytes.{inBook, classesOf, ruleIn}
-use Rattle.lister.specs.Asking.{ruleOf, ClassesFit, Filling, UpperHalf, LeftIn, RuleIn}
+use Rattle.lister.specs.Listing.{ruleOf, ClassesFit, Filling, UpperHalf, LeftIn, RuleIn}
 use Rattle.unify.proofs.TableBytes.{classes-at}
 use Rattle.lister.proofs.Halves.{upper-fits, in-classes}
 
--- a book's atoms keep to the desk's layout
-pub book-desk : Wider inBook desk
-book-desk = record { relations = omega arith; places = refl; variables = omega arith; constants = omega arith }
+-- a book's atoms keep to the layout of all our bytes
+pub book-stored : Wider inBook stored
+book-stored =
+    record {
+      relations = omega arith;
+      answers = λ t. tt;
+      places = refl;
+      variables = omega arith;
+      constants = omega arith;
+    }
 
 pub book-apart : TellsApart inBook
 book-apart = record { variables = omega arith; constants = omega arith }
 
-pub first-atom-in : (B : List ℕ) (i n : ℕ) → AtomsIn inBook B i n → 0 < n → AtomIn desk B i
+pub first-atom-in : (B : List ℕ) (i n : ℕ) → AtomsIn inBook B i n → 0 < n → AtomIn stored B i
 first-atom-in B i n a h =
-    let d = in-wider inBook desk book-desk desk-apart B i n a in
-    record { fits = omega (arith, d .fits); sound = sound-more desk B i n h (d .sound) .0 }
+    let d = in-wider inBook stored book-stored stored-apart B i n a in
+    record { fits = omega (arith, d .fits); sound = sound-more stored B i n h (d .sound) .0 }
 
 pub rest-in : (B : List ℕ) (i n : ℕ) → AtomsIn inBook B i n → 0 < n → AtomsIn inBook B (i + 5) (n - 1)
 rest-in B i n a h = record { fits = omega (arith, a .fits); sound = sound-more inBook B i n h (a .sound) .1 }
 
-pub first-fits : (B : List ℕ) (i n : ℕ) → AtomsIn inBook B i n → 0 < n → AtomFits inBook (atomAt desk B i)
+pub first-fits : (B : List ℕ) (i n : ℕ) → AtomsIn inBook B i n → 0 < n → AtomFits inBook (atomAt stored B i)
 first-fits B i n a h =
-    subst (AtomFits inBook) (atom-means inBook desk book-desk B i)
+    subst (AtomFits inBook) (atom-means inBook stored book-stored B i)
     (atom-fits inBook book-apart B (omega arith) i (sound-more inBook B i n h (a .sound) .0))
 
-pub all-fit : (B : List ℕ) (i n : ℕ) → AtomsIn inBook B i n → (a : Atom) → a ∈ atomsAt desk B i n → AtomFits inBook a
+pub all-fit : (B : List ℕ) (i n : ℕ) → AtomsIn inBook B i n → (a : Atom) → a ∈ atomsAt stored B i n → AtomFits inBook a
 all-fit B i n s a m =
     atoms-fit inBook book-apart B (omega arith) n i a (s .sound)
-    (subst (λ A. a ∈ A) (sym (atoms-mean inBook desk book-desk B i n)) m)
+    (subst (λ A. a ∈ A) (sym (atoms-mean inBook stored book-stored B i n)) m)
 
 -- what the table has for a variable
 module _ (table : List ℕ) (fit : ClassesFit table) (long : length table ≡ 64) where
-  sub-fits : (n : ℕ) → n < 64 → TermFits desk (subOf table n)
+  sub-fits : (n : ℕ) → n < 64 → TermFits stored (subOf table n)
   sub-fits n h =
-      subst (TermFits desk) (sym (table-at table n)) (fit (termOf (getD table n 0)) (in-classes table n (omega arith)))
+      subst (TermFits stored) (sym (table-at table n)) (fit (termOf (getD table n 0)) (in-classes table n (omega arith)))
 
-  term-on : (t : Term) → TermFits inBook t → TermFits desk (on-term (subOf table) t)
+  term-on : (t : Term) → TermFits inBook t → TermFits stored (on-term (subOf table) t)
   term-on (var n) h = sub-fits n (omega arith)
   term-on (con c) h = h
 
-  pub atom-on : (a : Atom) → AtomFits inBook a → AtomFits desk (on-atom (subOf table) a)
+  pub atom-on : (a : Atom) → AtomFits inBook a → AtomFits stored (on-atom (subOf table) a)
   atom-on a f =
       record {
-        relation = f .relation;
+        relation = atom-fits-wider inBook stored book-stored f .relation;
         some-place = subst (λ n. 1 ≤ n) (sym (length-map (a .args) (on-term (subOf table)))) (f .some-place);
         places = subst (λ n. n ≤ 4) (sym (length-map (a .args) (on-term (subOf table)))) (f .places);
         terms = λ t m. go t (Memᴰ·of-map (on-term (subOf table)) (a .args) m);
       }
     where
-      go : (t : Term) → (u : Term) × (u ∈ a .args) × (on-term (subOf table) u ≡ t) → TermFits desk t
-      go t r = subst (TermFits desk) (r .2) (term-on (r .0) (f .terms (r .0) (r .1)))
+      go : (t : Term) → (u : Term) × (u ∈ a .args) × (on-term (subOf table) u ≡ t) → TermFits stored t
+      go t r = subst (TermFits stored) (r .2) (term-on (r .0) (f .terms (r .0) (r .1)))
 
 -- a record under construction
-filling-grows : (A : List ℕ) (n : ℕ) → Filling A n → Grows desk 56 A (questionOf desk A) n
+filling-grows : (A : List ℕ) (n : ℕ) → Filling A n → Grows stored recordRoom A (questionOf stored A) n
 filling-grows A n f =
     record {
       bytes = f .holds;
       each =
           λ a m.
-          atoms-fit desk desk-apart A (omega arith) (getD A 0 0) 1 a (f .atoms)
-          (subst (λ (q : Question). a ∈ q) (question-at desk A refl) m);
-      room = rw (question-count desk A) (omega (arith, f .room));
+          atoms-fit stored stored-apart A (omega arith) (getD A 0 0) 1 a (f .atoms)
+          (subst (λ (q : Question). a ∈ q) (question-at stored A refl) m);
+      room = rw (question-count stored A) (omega (arith, f .room));
     }
 
-grows-filling : (B : List ℕ) (A : Question) (n : ℕ) → Grows desk 56 B A n → Filling B n
+grows-filling : (B : List ℕ) (A : Question) (n : ℕ) → Grows stored recordRoom B A n → Filling B n
 grows-filling B A n g =
     record {
-      holds = g .bytes ∙ ap (heldIn desk 56) (sym (grows-question desk desk-apart 56 B A n g));
+      holds = g .bytes ∙ ap (heldIn stored recordRoom) (sym (grows-question stored stored-apart recordRoom B A n g));
       atoms =
-          subst (λ X. T (areAtoms desk X 1 (getD X 0 0))) (sym (g .bytes)) (held-atoms desk 56 A desk-apart (g .each));
-      room = omega (arith, g .room, ap (λ X. getD X 0 0) (g .bytes) ∙ held-count desk 56 A);
+          subst (λ X. T (areAtoms stored X 1 (getD X 0 0))) (sym (g .bytes)) (held-atoms stored recordRoom A stored-apart (g .each));
+      room = omega (arith, g .room, ap (λ X. getD X 0 0) (g .bytes) ∙ held-count stored recordRoom A);
     }
 
-pub filling-room : (A : List ℕ) (n : ℕ) → Filling A n → 0 < n → RoomLeft desk 56 A
-filling-room A n f h = grows-room desk desk-apart 56 A (questionOf desk A) n (filling-grows A n f) h
+pub filling-room : (A : List ℕ) (n : ℕ) → Filling A n → 0 < n → RoomLeft stored recordRoom A
+filling-room A n f h = grows-room stored stored-apart recordRoom A (questionOf stored A) n (filling-grows A n f) h
 
-pub filling-put : (A R : List ℕ) (n : ℕ) (a : Atom) → Filling A n → 0 < n → AtomFits desk a
-    → R ≡ heldIn desk 56 (questionOf desk A ++ a ∷ [])
-    → Filling R (n - 1) × (questionOf desk R ≡ questionOf desk A ++ a ∷ [])
+pub filling-put : (A R : List ℕ) (n : ℕ) (a : Atom) → Filling A n → 0 < n → AtomFits stored a
+    → R ≡ heldIn stored recordRoom (questionOf stored A ++ a ∷ [])
+    → Filling R (n - 1) × (questionOf stored R ≡ questionOf stored A ++ a ∷ [])
 filling-put A R n a f h fit e =
-    let g = grows-put desk desk-apart 56 A (questionOf desk A) n (filling-grows A n f) R a fit h e in (
-      grows-filling R (questionOf desk A ++ a ∷ []) (n - 1) g,
-      grows-question desk desk-apart 56 R (questionOf desk A ++ a ∷ []) (n - 1) g,
+    let g = grows-put stored stored-apart recordRoom A (questionOf stored A) n (filling-grows A n f) R a fit h e in (
+      grows-filling R (questionOf stored A ++ a ∷ []) (n - 1) g,
+      grows-question stored stored-apart recordRoom R (questionOf stored A ++ a ∷ []) (n - 1) g,
     )
 
-pub filling-none : (R : List ℕ) (n : ℕ) → R ≡ heldIn desk 56 [] → n ≤ 11 → Filling R n
+pub filling-none : (R : List ℕ) (n : ℕ) → R ≡ heldIn stored recordRoom [] → n ≤ 12 → Filling R n
 filling-none R n e h =
     grows-filling R [] n (record { bytes = e; each = λ a m. absurd (List·Memᴰ·not-nil m); room = omega arith })
 
 -- one atom more of those that are put, the rest from the next on
 pub put-more : (s : Sub) (A R F : List ℕ) (i n : ℕ) → 0 < n
-    → questionOf desk R ≡ questionOf desk A ++ on-atom s (atomAt desk F i) ∷ []
-    → questionOf desk A ++ on-question s (atomsAt desk F i n)
-    ≡ questionOf desk R ++ on-question s (atomsAt desk F (i + 5) (n - 1))
+    → questionOf stored R ≡ questionOf stored A ++ on-atom s (atomAt stored F i) ∷ []
+    → questionOf stored A ++ on-question s (atomsAt stored F i n)
+    ≡ questionOf stored R ++ on-question s (atomsAt stored F (i + 5) (n - 1))
 put-more s A R F i n h e =
-    ap (λ q. questionOf desk A ++ on-question s q) (atoms-more desk F i n h)
-    ∙ sym (append-assoc (questionOf desk A) (on-atom s (atomAt desk F i) ∷ []) _)
-    ∙ ap (λ q. q ++ on-question s (atomsAt desk F (i + 5) (n - 1))) (sym e)
+    ap (λ q. questionOf stored A ++ on-question s q) (atoms-more stored F i n h)
+    ∙ sym (append-assoc (questionOf stored A) (on-atom s (atomAt stored F i) ∷ []) _)
+    ∙ ap (λ q. q ++ on-question s (atomsAt stored F (i + 5) (n - 1))) (sym e)
 
 pub put-none : (s : Sub) (A F : List ℕ) (i n k : ℕ) → n ≡ 0 → Filling A k
-    → A ≡ heldIn desk 56 (questionOf desk A ++ on-question s (atomsAt desk F i n))
+    → A ≡ heldIn stored recordRoom (questionOf stored A ++ on-question s (atomsAt stored F i n))
 put-none s A F i n k e f =
     f .holds
-    ∙ ap (heldIn desk 56)
-    (sym (ap (λ q. questionOf desk A ++ on-question s q) (atoms-none desk F i n e) ∙ append-nil (questionOf desk A)))
+    ∙ ap (heldIn stored recordRoom)
+    (sym (ap (λ q. questionOf stored A ++ on-question s q) (atoms-none stored F i n e) ∙ append-nil (questionOf stored A)))
 
 -- two substitutions that agree on the variables of a book's atoms
 on-question-same : (s t : Sub) (A : Question) → ((a : Atom) → a ∈ A → AtomFits inBook a)
@@ -144,51 +151,51 @@ on-question-same s t A f h = map-same (on-atom s) (on-atom t) A (λ a m. on-atom
     one (con c) k = refl
 
 -- The rewriting: the left atoms by the classes, then the body by their upper half.
-module _ (left book table upper : List ℕ) (p : Parts) (li : LeftIn left) (few : getD left 0 0 ≤ 7) (ru : RuleIn book p)
+module _ (left book table upper : List ℕ) (p : Parts) (li : LeftIn left) (few : getD left 0 0 ≤ 8) (ru : RuleIn book p)
     (fit : ClassesFit table) (long : length table ≡ 64) (uh : UpperHalf table upper) where
   abbrev L′ : Question
-  L′ = on-question (subOf table) (atomsAt desk left 1 (getD left 0 0))
+  L′ = on-question (subOf table) (atomsAt stored left 1 (getD left 0 0))
 
   abbrev B′ : Question
-  B′ = on-question (subOf upper) (atomsAt desk book (p .body) (p .bodies))
+  B′ = on-question (subOf upper) (atomsAt stored book (p .body) (p .bodies))
 
   mapped-fit : (m : List ℕ) → ClassesFit m → length m ≡ 64 → (A : Question) → ((a : Atom) → a ∈ A → AtomFits inBook a)
-      → (b : Atom) → b ∈ on-question (subOf m) A → AtomFits desk b
+      → (b : Atom) → b ∈ on-question (subOf m) A → AtomFits stored b
   mapped-fit m f g A each b i =
       let r = Memᴰ·of-map (on-atom (subOf m)) A i in
-      subst (AtomFits desk) (r .2) (atom-on m f g (r .0) (each (r .0) (r .1)))
+      subst (AtomFits stored) (r .2) (atom-on m f g (r .0) (each (r .0) (r .1)))
 
-  left-fit : (a : Atom) → a ∈ L′ → AtomFits desk a
+  left-fit : (a : Atom) → a ∈ L′ → AtomFits stored a
   left-fit = mapped-fit table fit long _ (all-fit left 1 (getD left 0 0) (li .atoms))
 
-  body-fit : (a : Atom) → a ∈ B′ → AtomFits desk a
+  body-fit : (a : Atom) → a ∈ B′ → AtomFits stored a
   body-fit = mapped-fit upper (upper-fits table upper fit long uh) (uh .size ∙ long) _ (all-fit book (p .body) (p .bodies) (ru .body))
 
-  whole-fit : (a : Atom) → a ∈ L′ ++ B′ → AtomFits desk a
+  whole-fit : (a : Atom) → a ∈ L′ ++ B′ → AtomFits stored a
   whole-fit a m = go (List·Memᴰ·append-cases L′ m)
     where
-      go : (a ∈ L′) ⊎ (a ∈ B′) → AtomFits desk a
+      go : (a ∈ L′) ⊎ (a ∈ B′) → AtomFits stored a
       go (inl i) = left-fit a i
       go (inr i) = body-fit a i
 
   left-count : length L′ ≡ getD left 0 0
-  left-count = length-map (atomsAt desk left 1 (getD left 0 0)) (on-atom (subOf table)) ∙ count-atoms desk left (getD left 0 0) 1
+  left-count = length-map (atomsAt stored left 1 (getD left 0 0)) (on-atom (subOf table)) ∙ count-atoms stored left (getD left 0 0) 1
 
   body-count : length B′ ≡ p .bodies
-  body-count = length-map (atomsAt desk book (p .body) (p .bodies)) (on-atom (subOf upper)) ∙ count-atoms desk book (p .bodies) (p .body)
+  body-count = length-map (atomsAt stored book (p .body) (p .bodies)) (on-atom (subOf upper)) ∙ count-atoms stored book (p .bodies) (p .body)
 
   whole-count : length (L′ ++ B′) ≡ getD left 0 0 + p .bodies
   whole-count = length-append L′ B′ ∙ ap₂ (λ m n. m + n) left-count body-count
 
-  module _ (R₀ R₁ R₂ : List ℕ) (e₀ : R₀ ≡ heldIn desk 56 []) where
-    none-question : questionOf desk R₀ ≡ []
-    none-question = ap (questionOf desk) e₀ ∙ held-question desk 56 [] desk-apart (λ a m. absurd (List·Memᴰ·not-nil m))
+  module _ (R₀ R₁ R₂ : List ℕ) (e₀ : R₀ ≡ heldIn stored recordRoom []) where
+    none-question : questionOf stored R₀ ≡ []
+    none-question = ap (questionOf stored) e₀ ∙ held-question stored recordRoom [] stored-apart (λ a m. absurd (List·Memᴰ·not-nil m))
 
-    module _ (e₁ : R₁ ≡ heldIn desk 56 (questionOf desk R₀ ++ L′)) where
-      left-grows : Grows desk 56 R₁ L′ (p .bodies)
+    module _ (e₁ : R₁ ≡ heldIn stored recordRoom (questionOf stored R₀ ++ L′)) where
+      left-grows : Grows stored recordRoom R₁ L′ (p .bodies)
       left-grows =
           record {
-            bytes = e₁ ∙ ap (λ q. heldIn desk 56 (q ++ L′)) none-question;
+            bytes = e₁ ∙ ap (λ q. heldIn stored recordRoom (q ++ L′)) none-question;
             each = left-fit;
             room = rw left-count (omega (arith, ru .few-body));
           }
@@ -196,43 +203,42 @@ module _ (left book table upper : List ℕ) (p : Parts) (li : LeftIn left) (few 
       pub left-filling : Filling R₁ (p .bodies)
       left-filling = grows-filling R₁ L′ (p .bodies) left-grows
 
-      left-question : questionOf desk R₁ ≡ L′
-      left-question = grows-question desk desk-apart 56 R₁ L′ (p .bodies) left-grows
+      left-question : questionOf stored R₁ ≡ L′
+      left-question = grows-question stored stored-apart recordRoom R₁ L′ (p .bodies) left-grows
 
-      module _ (e₂ : R₂ ≡ heldIn desk 56 (questionOf desk R₁ ++ B′)) where
-        whole-bytes : R₂ ≡ heldIn desk 56 (L′ ++ B′)
-        whole-bytes = e₂ ∙ ap (λ q. heldIn desk 56 (q ++ B′)) left-question
+      module _ (e₂ : R₂ ≡ heldIn stored recordRoom (questionOf stored R₁ ++ B′)) where
+        whole-bytes : R₂ ≡ heldIn stored recordRoom (L′ ++ B′)
+        whole-bytes = e₂ ∙ ap (λ q. heldIn stored recordRoom (q ++ B′)) left-question
 
-        pub whole-sound : SoundRecord desk R₂
+        pub whole-sound : SoundRecord stored R₂
         whole-sound =
-            subst (SoundRecord desk) (sym whole-bytes)
-            (held-sound desk 56 (L′ ++ B′) desk-apart
+            subst (SoundRecord stored) (sym whole-bytes)
+            (held-sound stored recordRoom (L′ ++ B′) stored-apart
             (record {
-              some-atom = rw whole-count (omega (arith, ru .some-body));
               most = rw whole-count (omega (arith, ru .few-body));
               each = whole-fit;
             })
             (rw whole-count (omega (arith, ru .few-body))))
 
-        pub whole-question : questionOf desk R₂ ≡ rewriting (tabled (classesOf table)) (questionOf desk left) (move 32 (ruleOf book p))
+        pub whole-question : questionOf stored R₂ ≡ rewriting (tabled (classesOf table)) (questionOf stored left) (move 32 (ruleOf book p))
         unfolding ruleIn
         whole-question =
-            ap (questionOf desk) whole-bytes
-            ∙ held-question desk 56 (L′ ++ B′) desk-apart whole-fit
+            ap (questionOf stored) whole-bytes
+            ∙ held-question stored recordRoom (L′ ++ B′) stored-apart whole-fit
             ∙ ap₂ (λ x y. x ++ y) of-left of-body
-            ∙ sym (map-append (on-atom σ) (atomsAt desk left 1 (getD left 0 0)) (on-question (up 32) body))
-            ∙ ap (λ (q : Question). rewriting σ q (move 32 (ruleOf book p))) (sym (question-at desk left refl))
+            ∙ sym (map-append (on-atom σ) (atomsAt stored left 1 (getD left 0 0)) (on-question (up 32) body))
+            ∙ ap (λ (q : Question). rewriting σ q (move 32 (ruleOf book p))) (sym (question-at stored left refl))
           where
             σ : Sub
             σ = tabled (classesOf table)
 
             body : Question
-            body = atomsAt desk book (p .body) (p .bodies)
+            body = atomsAt stored book (p .body) (p .bodies)
 
             at : (n : ℕ) → n < 64 → termOf (getD table n 0) ≡ σ n
             at n h = sym (classes-at table n (var n) (omega arith))
 
-            of-left : L′ ≡ on-question σ (atomsAt desk left 1 (getD left 0 0))
+            of-left : L′ ≡ on-question σ (atomsAt stored left 1 (getD left 0 0))
             of-left =
                 on-question-same (subOf table) σ _ (all-fit left 1 (getD left 0 0) (li .atoms)) (λ n h. lower n (omega arith))
               where

@@ -12,3 +12,8 @@ counts =
     ∷ (1 ∷ 4 ∷ 16 ∷ 64 ∷ 256 ∷ 1024 ∷ 4096 ∷ 16384 ∷ 65536 ∷ [])
     ∷ (1 ∷ 5 ∷ 25 ∷ 125 ∷ 625 ∷ 3125 ∷ 15625 ∷ 78125 ∷ 390625 ∷ [])
     ∷ []
+
+-- the most choices that the builder goes through: four head atoms, eight question atoms and an answer record, which is
+-- always left
+abbrev pub mostChoices : ℕ
+mostChoices = 1953125

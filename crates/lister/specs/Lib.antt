@@ -2,4 +2,4 @@
 -- builder, and how the code holds what is asked and answered. What `next` gives is `unification`'s.
 pub mod Counts
 pub mod Build
-pub mod Asking
+pub mod Listing

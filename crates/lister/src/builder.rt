@@ -3,6 +3,7 @@ use crate::Found;
 use crate::powers::choice_count;
 use crate::writing::rewriting;
 use book::Parts;
+use covering::RECORD;
 use forming::no_atoms;
 use forming::put_atom;
 use unify::all_apart;
@@ -13,12 +14,12 @@ ghost use mathlib.Core.Bool.{true};
 ghost use mathlib.Core.Option.{none};
 ghost use Prim.Native.Nat.{_+_, _*_, _-_, _≤_, _<_};
 ghost use lib.ListN.{getD};
-ghost use Rattle.covering.specs.Record.{desk, atomAt, atomsAt, questionOf};
+ghost use Rattle.covering.specs.Record.{stored, atomAt, atomsAt, questionOf};
 ghost use Rattle.unification.specs.Step.{move, judge, next as nextOf};
 ghost use Rattle.lister.specs.Build.{first, since, firstByDigit, tableBuilder};
 ghost use Rattle.unify.specs.Table.{tabled};
 ghost use Rattle.unify.specs.InBytes.{classesOf};
-ghost use Rattle.lister.specs.Asking.{ruleOf, RuleIn, QuestionIn, LeftIn, ClassesFit, Asks, foundOf};
+ghost use Rattle.lister.specs.Listing.{ruleOf, RuleIn, QuestionIn, LeftIn, ClassesFit, Asks, foundOf};
 
 // Nothing found.
 fn nothing() -> Found
@@ -27,7 +28,7 @@ fn nothing() -> Found
     Found {
         found: false,
         choice: 0,
-        rewriting: [255u8; 56],
+        rewriting: [255u8; RECORD],
     }
 }
 
@@ -37,14 +38,14 @@ fn judged(
     rule: Parts,
     from: usize,
     number: usize,
-    left: [u8; 56],
+    left: [u8; RECORD],
     table: [u8; 64],
 ) -> Found
-    requires { ⌜ RuleIn (now book) rule × LeftIn left × (getD left 0 0 ≤ 7) × ClassesFit table ⌝ }
+    requires { ⌜ RuleIn (now book) rule × LeftIn left × (getD left 0 0 ≤ 8) × ClassesFit table ⌝ }
     ensures { λ r. ⌜ r
         ≡ foundOf
         (since from number
-        (judge (questionOf desk left) (move 32 (ruleOf (now (book .entry)) rule)) (tabled (classesOf table)))) ⌝ }
+        (judge (questionOf stored left) (move 32 (ruleOf (now (book .entry)) rule)) (tabled (classesOf table)))) ⌝ }
 {
     if number < from {
         return nothing();
@@ -74,7 +75,7 @@ fn build(
     more: usize,
     number: usize,
     sent: bool,
-    left: [u8; 56],
+    left: [u8; RECORD],
     table: [u8; 64],
 ) -> Found
     requires { ⌜ Asks (now question) (now book) rule i more number sent left table ⌝ }
@@ -83,9 +84,9 @@ fn build(
         (first
         (tableBuilder 32 (ruleOf (now (book .entry)) rule) from)
         number
-        (questionOf desk left)
+        (questionOf stored left)
         sent
-        (atomsAt desk (now (question .entry)) i more)
+        (atomsAt stored (now (question .entry)) i more)
         (classesOf table)) ⌝ }
 {
     if more == 0 {
@@ -130,7 +131,7 @@ fn try_digit(
     more: usize,
     number: usize,
     sent: bool,
-    left: [u8; 56],
+    left: [u8; RECORD],
     table: [u8; 64],
     d: usize,
 ) -> Found
@@ -140,10 +141,10 @@ fn try_digit(
         (firstByDigit
         (tableBuilder 32 (ruleOf (now (book .entry)) rule) from)
         number
-        (questionOf desk left)
+        (questionOf stored left)
         sent
-        (atomAt desk (now (question .entry)) i)
-        (atomsAt desk (now (question .entry)) (i + 5) (more - 1))
+        (atomAt stored (now (question .entry)) i)
+        (atomsAt stored (now (question .entry)) (i + 5) (more - 1))
         (classesOf table)
         d) ⌝ }
 {
@@ -193,7 +194,7 @@ pub fn next(question: &[u8], book: &[u8], rule: Parts, from: usize) -> Found
     requires { ⌜ QuestionIn (now question) × RuleIn (now book) rule ⌝ }
     ensures { λ r. ⌜ r
         ≡ foundOf
-        (nextOf 32 (ruleOf (now (book .entry)) rule) (questionOf desk (now (question .entry))) from) ⌝ }
+        (nextOf 32 (ruleOf (now (book .entry)) rule) (questionOf stored (now (question .entry))) from) ⌝ }
 {
     let n = question[0] as usize;
     build(

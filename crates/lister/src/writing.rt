@@ -8,14 +8,15 @@ ghost use Prim.Native.Nat.{_+_, _≤_};
 ghost use lib.ListN.{getD};
 ghost use Rattle.covering.specs.Term.{on-question};
 ghost use Rattle.covering.specs.Form.{form};
-ghost use Rattle.covering.specs.Record.{desk, atomsAt, questionOf};
-ghost use Rattle.covering.specs.Buffer.{heldIn, AtomsIn};
+ghost use Rattle.covering.specs.Record.{stored, atomsAt, questionOf};
+ghost use Rattle.covering.specs.Buffer.{heldIn, AtomsIn, recordRoom};
 ghost use Rattle.forming.specs.Building.{subOf};
 ghost use Rattle.unification.specs.Step.{move, rewriting as rewritingOf};
 ghost use Rattle.unify.specs.Table.{tabled};
 ghost use Rattle.unify.specs.InBytes.{inBook, classesOf};
-ghost use Rattle.lister.specs.Asking.{ruleOf, RuleIn, LeftIn, ClassesFit, Filling, UpperHalf};
+ghost use Rattle.lister.specs.Listing.{ruleOf, RuleIn, LeftIn, ClassesFit, Filling, UpperHalf};
 use book::Parts;
+use covering::RECORD;
 
 // What stands for the rule's variables: the upper half of the classes, moved down by 32.
 fn upper_half(table: [u8; 64]) -> [u8; 64]
@@ -31,10 +32,10 @@ fn upper_half(table: [u8; 64]) -> [u8; 64]
 }
 
 // The record with the n atoms of from that start at i after its own, each variable replaced by what the table has.
-fn put_all(kept: [u8; 56], table: [u8; 64], from: &[u8], i: usize, n: usize) -> [u8; 56]
+fn put_all(kept: [u8; RECORD], table: [u8; 64], from: &[u8], i: usize, n: usize) -> [u8; RECORD]
     requires { ⌜ Filling kept n × AtomsIn inBook (now from) i n × ClassesFit table ⌝ }
     ensures { λ r. ⌜ r
-        ≡ heldIn desk 56 (questionOf desk kept ++ on-question (subOf table) (atomsAt desk (now (from .entry)) i n)) ⌝ }
+        ≡ heldIn stored recordRoom (questionOf stored kept ++ on-question (subOf table) (atomsAt stored (now (from .entry)) i n)) ⌝ }
 {
     let mut done = kept;
     let mut at = i;
@@ -49,14 +50,14 @@ fn put_all(kept: [u8; 56], table: [u8; 64], from: &[u8], i: usize, n: usize) -> 
 }
 
 // The rewriting of the left atoms and the rule's body by the classes.
-pub fn rewriting(left: [u8; 56], book: &[u8], rule: Parts, table: [u8; 64]) -> [u8; 56]
-    requires { ⌜ LeftIn left × (getD left 0 0 ≤ 7) × RuleIn (now book) rule × ClassesFit table ⌝ }
+pub fn rewriting(left: [u8; RECORD], book: &[u8], rule: Parts, table: [u8; 64]) -> [u8; RECORD]
+    requires { ⌜ LeftIn left × (getD left 0 0 ≤ 8) × RuleIn (now book) rule × ClassesFit table ⌝ }
     ensures { λ r. ⌜ r
-        ≡ heldIn desk 56
+        ≡ heldIn stored recordRoom
         (form
         (rewritingOf
         (tabled (classesOf table))
-        (questionOf desk left)
+        (questionOf stored left)
         (move 32 (ruleOf (now (book .entry)) rule)))) ⌝ }
 {
     let n = left[0] as usize;

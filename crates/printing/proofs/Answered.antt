@@ -1,4 +1,4 @@
--- From what explore's run answers (`Answers`, over an output of 2,632 bytes) to what `print` asks, and to what is
+-- From what explore's run answers (`Answers`, over an output of 2,952 bytes) to what `print` asks, and to what is
 -- printed for the book. Assumes nothing.
 use mathlib.Core.Path.{_≡_, refl, sym, _∙_, ap, ap₂, subst}
 use mathlib.Core.Bool.{Bool, cond}
@@ -11,29 +11,30 @@ use lib.Dec.{ltb}
 use lib.ListN.{length, drop, take-append-drop}
 use Rattle.covering.specs.Lists.{_∈_}
 use Rattle.covering.specs.Term.{Question}
-use Rattle.covering.specs.Record.{desk, Fits}
+use Rattle.covering.specs.Record.{stored, Fits}
 use Rattle.reading.specs.Word.{word}
+use Rattle.reading.specs.Verdict.{SoundBook}
 use Rattle.covering.proofs.Tests.{le-or-lt}
 use Rattle.exploration.specs.Answer.{Result, union, refusal, result, Answers}
-use Rattle.exploration.specs.Standing.{Standing}
-use Rattle.exploration.specs.Union.{outputSize, membersBytes, unionBytes, membersOf, exploredOf}
+use Rattle.exploration.specs.Standing.{WrittenAt}
+use Rattle.exploration.specs.Union.{outputSize, unionBytes, membersOf, exploredOf}
+use Rattle.exploration.specs.Refusals.{answersOf}
 use Rattle.reading.proofs.Fits.{allowed-few}
-use Rattle.exploration.proofs.OfBook.{members-most, explored-allowed, desk-fits}
-use Rattle.exploration.proofs.UnionBytes.{count-read, offset-read, members-there}
-use Rattle.exploration.proofs.Standing.{members-stand}
+use Rattle.exploration.proofs.OfBook.{members-most, explored-allowed, stored-fits, member-few}
+use Rattle.exploration.proofs.UnionBytes.{count-read, offset-read, union-stands, Written}
 use Rattle.exploration.proofs.Refused.{refuses-exactly}
 use Rattle.exploration.proofs.Given.{Whole, kind, members-are, explored-is, the-bytes, same-length, refused-exactly}
-use Rattle.exploration.proofs.Given.{whole-given}
+use Rattle.exploration.proofs.Given.{whole-given, member-written}
 use Rattle.printing.specs.Printed.{printed}
 use Rattle.printing.specs.Put.{Puts}
 use Rattle.printing.specs.Answer.{textSize, linesOf}
-use Rattle.printing.specs.Printable.{resultIn, Stands, Printable}
+use Rattle.printing.specs.Printable.{resultIn, UnionStands, Printable}
 use Rattle.printing.proofs.Putting.{put-none, put-as}
 use Rattle.printing.proofs.Longest.{union-most, refusal-most}
 
-in-refusal : (n p : ℕ) (W : List ℕ) → 1 ≤ n → resultIn n p W ≡ refusal n p
-in-refusal zero p W h = absurd (omega arith)
-in-refusal (suc n) p W h = refl
+in-refusal : (answers n p : ℕ) (W : List ℕ) → 1 ≤ n → resultIn answers n p W ≡ refusal n p
+in-refusal answers zero p W h = absurd (omega arith)
+in-refusal answers (suc n) p W h = refl
 
 module _ (book : List ℕ) (room : ℕ) where
   lines-are : linesOf book room ≡ cond (ltb room textSize) [] (printed (result book outputSize))
@@ -55,26 +56,31 @@ module _ {book out : List ℕ} {number place : ℕ} {after : List ℕ} (given : 
     abbrev w : Whole given
     w = whole-given given complete
 
-    are : membersOf after ≡ whole-given given complete .members
+    are : membersOf (answersOf book) after ≡ whole-given given complete .members
     are = members-are given complete
 
-    in-run : (M : Question) → M ∈ membersOf after → M ∈ whole-given given complete .members
+    in-run : (M : Question) → M ∈ membersOf (answersOf book) after → M ∈ whole-given given complete .members
     in-run M m = subst (λ (U : List Question). M ∈ U) are m
 
-    fits : (M : Question) → M ∈ membersOf after → Fits desk M
-    fits M m = desk-fits book (w .sound) (kind given complete M (in-run M m) .fits)
+    fits : (M : Question) → M ∈ membersOf (answersOf book) after → Fits stored M
+    fits M m = stored-fits book (w .sound) (kind given complete M (in-run M m) .fits)
 
-    union-stands : Stands after
-    union-stands =
+    union-there : UnionStands (answersOf book) after
+    union-there =
         record {
           header = omega (arith, same-length given, sized);
           members =
-              subst (λ (i : ℕ). Standing after i (word after 0)) (sym first)
-              (subst (Standing after 8) (sym count) (members-stand after 8 U (drop place after) fits there));
+              subst (λ (i : ℕ). WrittenAt (answersOf book) after i (word after 0)) (sym first)
+              (subst (WrittenAt (answersOf book) after 8) (sym count)
+              (subst (λ (l : List ℕ). WrittenAt (answersOf book) l 8 (length U)) (sym bytes)
+              (union-stands (answersOf book) U (exploredOf after) (drop place after) written)));
         }
       where
         U : List Question
-        U = membersOf after
+        U = membersOf (answersOf book) after
+
+        written : (M : Question) → M ∈ U → Written (answersOf book) M
+        written M m = member-written given complete M (in-run M m)
 
         bytes : after ≡ unionBytes U (exploredOf after) ++ drop place after
         bytes =
@@ -82,20 +88,21 @@ module _ {book out : List ℕ} {number place : ℕ} {after : List ℕ} (given : 
             ∙ ap (λ (l : List ℕ). l ++ drop place after) (the-bytes given complete)
 
         first : word after 4 ≡ 8
-        first = ap (λ (l : List ℕ). word l 4) bytes ∙ offset-read U (exploredOf after) (drop place after)
+        first =
+            ap (λ (l : List ℕ). word l 4) bytes
+            ∙ offset-read (answersOf book) U (exploredOf after) (drop place after)
 
         count : word after 0 ≡ length U
-        count = ap (λ (l : List ℕ). word l 0) bytes ∙ count-read U (exploredOf after) (drop place after)
+        count =
+            ap (λ (l : List ℕ). word l 0) bytes
+            ∙ count-read (answersOf book) U (exploredOf after) (drop place after)
 
-        there : drop 8 after ≡ membersBytes U ++ drop place after
-        there = ap (drop 8) bytes ∙ members-there U (exploredOf after) (drop place after)
-
-    union-says : union (membersOf after) (exploredOf after) ≡ result book outputSize
+    union-says : union (membersOf (answersOf book) after) (exploredOf after) ≡ result book outputSize
     union-says = ap₂ union are (explored-is given complete) ∙ sym (w .is) ∙ ap (result book) sized
 
-    union-fits : length (printed (union (membersOf after) (exploredOf after))) ≤ textSize
+    union-fits : length (printed (union (membersOf (answersOf book) after) (exploredOf after))) ≤ textSize
     union-fits =
-        union-most (membersOf after) (exploredOf after)
+        union-most (membersOf (answersOf book) after) (exploredOf after)
         (omega (arith, ap length are, members-most book (w .sound) (w .ran)))
         (omega (
           arith,
@@ -104,7 +111,7 @@ module _ {book out : List ℕ} {number place : ℕ} {after : List ℕ} (given : 
           allowed-few book (w .sound),
         ))
         fits
-        (λ M m. kind given complete M (in-run M m) .fits .most)
+        (λ M m. member-few book (w .sound) (kind given complete M (in-run M m)))
 
   module _ (one : 1 ≤ number) where
     refusal-says : refusal number place ≡ result book outputSize
@@ -112,34 +119,47 @@ module _ {book out : List ℕ} {number place : ℕ} {after : List ℕ} (given : 
         sym (refuses-exactly book (length out) number place .1 (refused-exactly given number place one .0 (refl, refl)))
         ∙ ap (result book) sized
 
-  -- the number, the place and the output say the book's result
-  pub result-told : resultIn number place after ≡ result book outputSize
-  result-told = go (le-or-lt 1 number)
-    where
-      go : (1 ≤ number) ⊎ (number < 1) → resultIn number place after ≡ result book outputSize
-      go (inl one) = in-refusal number place after one ∙ refusal-says one
-      go (inr none) =
-          let complete : number ≡ 0 = omega arith in
-          ap (λ (n : ℕ). resultIn n place after) complete ∙ union-says complete
+  -- the number, the place and the output say the book's result, with as many answer records as the question has
+  module _ (answers : ℕ) (is : number ≡ 0 → answers ≡ answersOf book) where
+    result-told : resultIn answers number place after ≡ result book outputSize
+    result-told = go (le-or-lt 1 number)
+      where
+        go : (1 ≤ number) ⊎ (number < 1) → resultIn answers number place after ≡ result book outputSize
+        go (inl one) = in-refusal answers number place after one ∙ refusal-says one
+        go (inr none) =
+            let complete : number ≡ 0 = omega arith in
+            ap₂ (λ (a n : ℕ). resultIn a n place after) (is complete) complete ∙ union-says complete
 
-  -- what `print` asks, of a text with room for the longest
-  pub printable : number < 256 → place < 2 ^ 64 → (room : ℕ) → textSize ≤ room → Printable number place after room
-  printable small wide room roomy = record { stands = union-stands; fits = go (le-or-lt 1 number) }
-    where
-      go : (1 ≤ number) ⊎ (number < 1) → length (printed (resultIn number place after)) ≤ room
-      go (inl one) =
-          let long = refusal-most number place small wide in
-          omega (arith, ap (λ (r : Result). length (printed r)) (in-refusal number place after one))
-      go (inr none) =
-          let complete : number ≡ 0 = omega arith in
-          let long = union-fits complete in
-          omega (arith, ap (λ (n : ℕ). length (printed (resultIn n place after))) complete)
+    -- what `print` asks, of a text with room for the longest
+    pub printable : number < 256 → place < 2 ^ 64 → (room : ℕ) → textSize ≤ room
+        → Printable answers number place after room
+    printable small wide room roomy =
+        record {
+          stands = λ complete. subst (λ (a : ℕ). UnionStands a after) (sym (is complete)) (union-there complete);
+          fits = go (le-or-lt 1 number);
+        }
+      where
+        go : (1 ≤ number) ⊎ (number < 1) → length (printed (resultIn answers number place after)) ≤ room
+        go (inl one) =
+            let long = refusal-most number place small wide in
+            omega (arith, ap (λ (r : Result). length (printed r)) (in-refusal answers number place after one))
+        go (inr none) =
+            let complete : number ≡ 0 = omega arith in
+            let long = union-fits complete in
+            omega (
+              arith,
+              ap₂ (λ (a n : ℕ). length (printed (resultIn a n place after))) (is complete) complete,
+            )
 
-  -- what `print` prints is what is printed for the book
-  pub answered : {text after-text : List ℕ} {end : ℕ} → textSize ≤ length text
-      → Puts (printed (resultIn number place after)) text 0 end after-text
-      → Puts (linesOf book (length text)) text 0 end after-text
-  answered {text} roomy p = put-as (lines-long book (length text) roomy ∙ ap printed (sym result-told)) p
+    -- what `print` prints is what is printed for the book
+    pub answered : {text after-text : List ℕ} {end : ℕ} → textSize ≤ length text
+        → Puts (printed (resultIn answers number place after)) text 0 end after-text
+        → Puts (linesOf book (length text)) text 0 end after-text
+    answered {text} roomy p = put-as (lines-long book (length text) roomy ∙ ap printed (sym result-told)) p
+
+  -- a book that is not refused is sound
+  pub complete-sound : number ≡ 0 → SoundBook book
+  complete-sound complete = whole-given given complete .sound
 
 -- into a text that is too short nothing is printed
 pub unanswered : (book text : List ℕ) → length text < textSize → Puts (linesOf book (length text)) text 0 0 text

@@ -7,11 +7,10 @@ use Rattle.covering.specs.Lists.{gather}
 use Rattle.covering.specs.Term.{Question}
 use Rattle.reading.specs.Word.{word}
 use Rattle.exploration.specs.Union.{membersFrom}
-use Rattle.exploration.proofs.UnionBytes.{members-of}
-use Rattle.exploration.proofs.Members.{members-count}
-use Rattle.exploration.specs.Standing.{Standing}
+use Rattle.exploration.proofs.UnionBytes.{members-of, members-count}
+use Rattle.exploration.specs.Standing.{WrittenAt}
 use Rattle.printing.specs.Printed.{ascii, memberLine, line, printed}
-use Rattle.printing.specs.Printable.{resultIn, Stands}
+use Rattle.printing.specs.Printable.{resultIn, UnionStands}
 
 -- the header's words that are read
 pub record Words (W : List ℕ) (m e f : ℕ) : Type 0 where
@@ -19,40 +18,42 @@ pub record Words (W : List ℕ) (m e f : ℕ) : Type 0 where
   pub explored : e ≡ word W 2
   pub first : f ≡ word W 4
 
-module _ (number place : ℕ) (W : List ℕ) where
+module _ (answers number place : ℕ) (W : List ℕ) where
   pub refusal-text : (number ≡ 0 → ⊥)
-      → printed (resultIn number place W) ≡ line (ascii "refused ") number (ascii " at ") place
+      → printed (resultIn answers number place W) ≡ line (ascii "refused ") number (ascii " at ") place
   refusal-text h = go number h
     where
-      go : (n : ℕ) → (n ≡ 0 → ⊥) → printed (resultIn n place W) ≡ line (ascii "refused ") n (ascii " at ") place
+      go : (n : ℕ) → (n ≡ 0 → ⊥) → printed (resultIn answers n place W) ≡ line (ascii "refused ") n (ascii " at ") place
       go zero h = absurd (h refl)
       go (suc n) h = refl
 
   module _ {m e f : ℕ} (h : Words W m e f) (complete : number ≡ 0) where
-    pub union-text : printed (resultIn number place W)
-        ≡ line (ascii "members ") m (ascii " explored ") e ++ gather memberLine (membersFrom W f m)
+    pub union-text : printed (resultIn answers number place W)
+        ≡ line (ascii "members ") m (ascii " explored ") e ++ gather memberLine (membersFrom answers W f m)
     union-text =
-        ap (λ (n : ℕ). printed (resultIn n place W)) complete
+        ap (λ (n : ℕ). printed (resultIn answers n place W)) complete
         ∙ ap
         (λ (U : List Question).
-        line (ascii "members ") (length U) (ascii " explored ") (word W 2) ++ gather memberLine U) (members-of W)
+        line (ascii "members ") (length U) (ascii " explored ") (word W 2) ++ gather memberLine U) (members-of answers W)
         ∙ ap (λ (n : ℕ). line (ascii "members ") n (ascii " explored ") (word W 2) ++ lines) count
         ∙ ap₂ (λ (n : ℕ) (l : List ℕ). line (ascii "members ") m (ascii " explored ") n ++ l) (sym (h .explored))
-        (ap₂ (λ (i n : ℕ). gather memberLine (membersFrom W i n)) (sym (h .first)) (sym (h .members)))
+        (ap₂ (λ (i n : ℕ). gather memberLine (membersFrom answers W i n)) (sym (h .first)) (sym (h .members)))
       where
         lines : List ℕ
-        lines = gather memberLine (membersFrom W (word W 4) (word W 0))
+        lines = gather memberLine (membersFrom answers W (word W 4) (word W 0))
 
-        count : length (membersFrom W (word W 4) (word W 0)) ≡ m
-        count = members-count W (word W 4) (word W 0) ∙ sym (h .members)
+        count : length (membersFrom answers W (word W 4) (word W 0)) ≡ m
+        count = members-count answers W (word W 4) (word W 0) ∙ sym (h .members)
 
-    pub union-length : length (printed (resultIn number place W))
-        ≡ length (line (ascii "members ") m (ascii " explored ") e) + length (gather memberLine (membersFrom W f m))
+    pub union-length : length (printed (resultIn answers number place W))
+        ≡ length (line (ascii "members ") m (ascii " explored ") e) + length (gather memberLine (membersFrom answers W f m))
     union-length =
         ap length union-text
-        ∙ length-append (line (ascii "members ") m (ascii " explored ") e) (gather memberLine (membersFrom W f m))
+        ∙ length-append (line (ascii "members ") m (ascii " explored ") e) (gather memberLine (membersFrom answers W f m))
 
 -- the members stand where the header says
-pub stands-there : {W : List ℕ} {m e f : ℕ} → Words W m e f → Stands W → Standing W f m
-stands-there {W} {m} h s =
-    subst (λ (i : ℕ). Standing W i m) (sym (h .first)) (subst (Standing W (word W 4)) (sym (h .members)) (s .members))
+pub stands-there : {answers : ℕ} {W : List ℕ} {m e f : ℕ} → Words W m e f → UnionStands answers W
+    → WrittenAt answers W f m
+stands-there {answers} {W} {m} h s =
+    subst (λ (i : ℕ). WrittenAt answers W i m) (sym (h .first))
+    (subst (WrittenAt answers W (word W 4)) (sym (h .members)) (s .members))

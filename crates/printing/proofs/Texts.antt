@@ -1,26 +1,28 @@
 -- Laws of what is printed of terms, atoms and members that stand in bytes: what is put first and what after it, and
 -- what is known of the bytes after it. Assumes nothing.
-use mathlib.Core.Path.{_≡_, refl, sym, _∙_, ap, ap₂, subst}
+use mathlib.Core.Path.{_≡_, refl, _∙_, ap, ap₂, subst}
 use mathlib.Core.Bool.{Bool, cond}
 use mathlib.Core.List.{List, [], _∷_, _++_}
-use Prim.Native.Nat.{ℕ, suc, _+_, _-_, _≤_, _<_}
+use Prim.Native.Nat.{ℕ, zero, suc, _+_, _-_, _≤_, _<_}
 use native.Mathlib.Omega.{arith}
 use borrow.Author.Tests.{eq-eqb, ne-eqb}
 use lib.Dec.{T}
-use lib.ListN.{length, getD, take, drop, length-append}
+use lib.ListN.{length, getD, length-append}
 use Rattle.covering.specs.Lists.{gather}
 use Rattle.covering.specs.Term.{Term, var, con, Question}
-use Rattle.covering.specs.Record.{desk, termOf, argsAt, atomAt, atomsAt, questionOf, isAtom, SoundRecord}
+use Rattle.covering.specs.Record.{stored, termOf, argsAt, atomAt, atomsAt, isAtom}
 use Rattle.covering.proofs.Bytes.{term-var, term-con, atom-first}
-use Rattle.covering.proofs.Places.{args-none, args-step, relation-at, args-at, question-at, atoms-none, atoms-more}
+use Rattle.covering.proofs.Places.{args-none, args-step, relation-at, args-at, atoms-none, atoms-more}
 use Rattle.covering.proofs.Fitting.{term-is-used}
-use Rattle.covering.proofs.RoundTrip.{desk-apart}
+use Rattle.covering.proofs.RoundTrip.{stored-apart}
 use Rattle.exploration.specs.Union.{membersFrom, memberEnd}
-use Rattle.exploration.specs.Standing.{Standing}
-use Rattle.exploration.proofs.Members.{members-none, members-step}
-use Rattle.exploration.proofs.Standing.{Here, stands-here}
-use Rattle.covering.proofs.Slices.{part-is}
-use Rattle.printing.specs.Printed.{ascii, decimal, marked, joined, termText, atomText, memberLine, line}
+use Rattle.exploration.specs.Standing.{Counted, MemberAt, WrittenAt}
+use Rattle.exploration.proofs.UnionBytes.{member-none, member-next, written-next}
+use Rattle.reading.specs.Word.{byte}
+use Rattle.covering.specs.Asking.{answerRelation, asking, records}
+use Rattle.printing.specs.Printed.{ascii, decimal, marked, separated, termText, relationText, atomText, memberLine}
+use Rattle.printing.specs.Printed.{line, alwaysText}
+use Rattle.printing.specs.Printable.{alwaysBytes}
 
 less-one : (n : ℕ) → 0 < n → n ≡ suc (n - 1)
 less-one n h = omega arith
@@ -46,6 +48,22 @@ module _ (b : ℕ) where
 
   pub constant-length : 128 ≤ b → length (termText (termOf b)) ≡ 1 + length (decimal (b - 128))
   constant-length h = ap length (constant-text h) ∙ omega arith
+
+-- a relation
+module _ (r : ℕ) where
+  pub answer-text : r ≡ answerRelation → relationText r ≡ ascii "a"
+  unfolding relationText
+  answer-text e = rw (eq-eqb r answerRelation e)
+
+  pub numbered-text : (r ≡ answerRelation → ⊥) → relationText r ≡ ascii "r" ++ decimal r
+  unfolding relationText
+  numbered-text ne = rw (ne-eqb r answerRelation ne)
+
+  pub answer-length : r ≡ answerRelation → length (relationText r) ≡ 1
+  answer-length e = ap length (answer-text e)
+
+  pub numbered-length : (r ≡ answerRelation → ⊥) → length (relationText r) ≡ 1 + length (decimal r)
+  numbered-length ne = ap length (numbered-text ne) ∙ omega arith
 
 -- terms, with a comma before each
 abbrev pub termsText : List ℕ → ℕ → ℕ → List ℕ
@@ -103,132 +121,149 @@ module _ (a : List ℕ) (m : ℕ) (b : List ℕ) (n : ℕ) where
 
 -- an atom
 module _ (B : List ℕ) (i : ℕ) where
-  first-used : T (isAtom desk B i) → getD B (i + 1) 0 ≡ 255 → ⊥
-  first-used s = term-is-used desk desk-apart (getD B (i + 1) 0) (atom-first desk B i s)
+  first-used : T (isAtom stored B i) → getD B (i + 1) 0 ≡ 255 → ⊥
+  first-used s = term-is-used stored stored-apart (getD B (i + 1) 0) (atom-first stored B i s)
 
-  atom-is : atomText (atomAt desk B i)
-      ≡ ascii "r"
-      ++ (decimal (getD B i 0) ++ (ascii "(" ++ (joined (ascii ",") termText (argsAt B (i + 1) 4) ++ ascii ")")))
+  atom-is : atomText (atomAt stored B i)
+      ≡ relationText (getD B i 0) ++ (ascii "(" ++ (separated (ascii ",") termText (argsAt B (i + 1) 4) ++ ascii ")"))
   unfolding atomText
   atom-is =
       ap₂
-      (λ (r : ℕ) (ts : List Term).
-      ascii "r" ++ (decimal r ++ (ascii "(" ++ (joined (ascii ",") termText ts ++ ascii ")"))))
-      (relation-at desk B i)
-      (args-at desk B i)
+      (λ (r : ℕ) (ts : List Term). relationText r ++ (ascii "(" ++ (separated (ascii ",") termText ts ++ ascii ")")))
+      (relation-at stored B i)
+      (args-at stored B i)
 
-  pub atom-text : T (isAtom desk B i)
-      → atomText (atomAt desk B i)
-      ≡ ascii "r"
-      ++ (decimal (getD B i 0)
+  pub atom-text : T (isAtom stored B i)
+      → atomText (atomAt stored B i)
+      ≡ relationText (getD B i 0)
       ++ (ascii "("
-      ++ ((termText (termOf (getD B (i + 1) 0)) ++ marked (ascii ",") termText (argsAt B (i + 2) 3)) ++ ascii ")")))
+      ++ ((termText (termOf (getD B (i + 1) 0)) ++ marked (ascii ",") termText (argsAt B (i + 2) 3)) ++ ascii ")"))
   atom-text s =
       atom-is
       ∙ ap
       (λ (ts : List Term).
-      ascii "r" ++ (decimal (getD B i 0) ++ (ascii "(" ++ (joined (ascii ",") termText ts ++ ascii ")"))))
+      relationText (getD B i 0) ++ (ascii "(" ++ (separated (ascii ",") termText ts ++ ascii ")")))
       (args-next B (i + 1) 3 (first-used s) ∙ ap (λ (k : ℕ). termOf (getD B (i + 1) 0) ∷ argsAt B k 3) (omega arith))
 
-  pub atom-length : T (isAtom desk B i)
-      → length (atomText (atomAt desk B i))
-      ≡ 3 + length (decimal (getD B i 0)) + length (termText (termOf (getD B (i + 1) 0)))
+  pub atom-length : T (isAtom stored B i)
+      → length (atomText (atomAt stored B i))
+      ≡ 2 + length (relationText (getD B i 0)) + length (termText (termOf (getD B (i + 1) 0)))
       + length (marked (ascii ",") termText (argsAt B (i + 2) 3))
   atom-length s =
-      let number = decimal (getD B i 0) in
+      let relation = relationText (getD B i 0) in
       let first = termText (termOf (getD B (i + 1) 0)) in
       let rest = termsText B (i + 2) 3 in
       ap length (atom-text s)
       ∙ omega (
         arith,
-        length-append number (ascii "(" ++ ((first ++ rest) ++ ascii ")")),
+        length-append relation (ascii "(" ++ ((first ++ rest) ++ ascii ")")),
         length-append (first ++ rest) (ascii ")"),
         length-append first rest,
       )
 
 -- atoms, with a space before each
 abbrev pub atomsText : List ℕ → ℕ → ℕ → List ℕ
-atomsText B i n = marked (ascii " ") atomText (atomsAt desk B i n)
+atomsText B i n = marked (ascii " ") atomText (atomsAt stored B i n)
 
 module _ (B : List ℕ) (i n : ℕ) where
-  pub atoms-end : n ≡ 0 → marked (ascii " ") atomText (atomsAt desk B i n) ≡ []
-  atoms-end e = ap (marked (ascii " ") atomText) (atoms-none desk B i n e)
+  pub atoms-end : n ≡ 0 → marked (ascii " ") atomText (atomsAt stored B i n) ≡ []
+  atoms-end e = ap (marked (ascii " ") atomText) (atoms-none stored B i n e)
 
   pub atoms-next : 0 < n
-      → marked (ascii " ") atomText (atomsAt desk B i n)
-      ≡ (ascii " " ++ atomText (atomAt desk B i)) ++ marked (ascii " ") atomText (atomsAt desk B (i + 5) (n - 1))
-  atoms-next h = ap (marked (ascii " ") atomText) (atoms-more desk B i n h)
+      → marked (ascii " ") atomText (atomsAt stored B i n)
+      ≡ (ascii " " ++ atomText (atomAt stored B i)) ++ marked (ascii " ") atomText (atomsAt stored B (i + 5) (n - 1))
+  atoms-next h = ap (marked (ascii " ") atomText) (atoms-more stored B i n h)
 
   pub atoms-length : 0 < n
-      → length (marked (ascii " ") atomText (atomsAt desk B i n))
-      ≡ 1 + length (atomText (atomAt desk B i)) + length (marked (ascii " ") atomText (atomsAt desk B (i + 5) (n - 1)))
+      → length (marked (ascii " ") atomText (atomsAt stored B i n))
+      ≡ 1 + length (atomText (atomAt stored B i)) + length (marked (ascii " ") atomText (atomsAt stored B (i + 5) (n - 1)))
   atoms-length h =
       ap length (atoms-next h)
-      ∙ length-append (ascii " " ++ atomText (atomAt desk B i)) (atomsText B (i + 5) (n - 1))
+      ∙ length-append (ascii " " ++ atomText (atomAt stored B i)) (atomsText B (i + 5) (n - 1))
       ∙ omega arith
 
--- a member
-module _ (B : List ℕ) (s : SoundRecord desk B) where
-  member-is : memberLine (questionOf desk B) ≡ joined (ascii " ") atomText (atomsAt desk B 1 (getD B 0 0)) ++ ascii "\n"
-  unfolding memberLine
-  member-is = ap memberLine (question-at desk B refl)
+-- atoms with a space between two
+module _ (B : List ℕ) (i n : ℕ) where
+  pub all-none : n ≡ 0 → separated (ascii " ") atomText (atomsAt stored B i n) ≡ []
+  all-none e = ap (separated (ascii " ") atomText) (atoms-none stored B i n e)
 
-  pub member-text : memberLine (questionOf desk B)
-      ≡ (atomText (atomAt desk B 1) ++ marked (ascii " ") atomText (atomsAt desk B 6 (getD B 0 0 - 1))) ++ ascii "\n"
-  member-text =
-      member-is
-      ∙ ap (λ (A : Question). joined (ascii " ") atomText A ++ ascii "\n")
-      (atoms-more desk B 1 (getD B 0 0) (omega (arith, s .some-atom)))
+  pub all-some : 0 < n
+      → separated (ascii " ") atomText (atomsAt stored B i n)
+      ≡ atomText (atomAt stored B i) ++ marked (ascii " ") atomText (atomsAt stored B (i + 5) (n - 1))
+  all-some h = ap (separated (ascii " ") atomText) (atoms-more stored B i n h)
 
-  pub member-length : length (memberLine (questionOf desk B))
-      ≡ 1 + length (atomText (atomAt desk B 1))
-      + length (marked (ascii " ") atomText (atomsAt desk B 6 (getD B 0 0 - 1)))
-  member-length =
-      let first = atomText (atomAt desk B 1) in
-      let rest = atomsText B 6 (getD B 0 0 - 1) in
-      ap length member-text
-      ∙ length-append (first ++ rest) (ascii "\n")
-      ∙ omega (arith, length-append first rest)
+  pub all-length : 0 < n
+      → length (separated (ascii " ") atomText (atomsAt stored B i n))
+      ≡ length (atomText (atomAt stored B i)) + length (marked (ascii " ") atomText (atomsAt stored B (i + 5) (n - 1)))
+  all-length h = ap length (all-some h) ∙ length-append (atomText (atomAt stored B i)) (atomsText B (i + 5) (n - 1))
 
--- members; a member stands in the part of the bytes that starts with it
-abbrev pub part : List ℕ → ℕ → List ℕ
-part W i = take (length W - i) (drop i W)
-
-module _ (W : List ℕ) (i n : ℕ) where
-  pub members-end : n ≡ 0 → gather memberLine (membersFrom W i n) ≡ []
-  members-end e = ap (λ (k : ℕ). gather memberLine (membersFrom W i k)) e ∙ ap (gather memberLine) (members-none W i 0 0 refl-le)
+-- what stands for no atoms
+module _ (count answers : ℕ) where
+  pub always-not : (count ≡ 0 → ⊥) → alwaysBytes count answers ≡ []
+  unfolding alwaysBytes
+  always-not h = go count h
     where
-      refl-le : 0 ≤ 0
-      refl-le = omega arith
+      go : (k : ℕ) → (k ≡ 0 → ⊥) → alwaysBytes k answers ≡ []
+      go zero h = absurd (h refl)
+      go (suc k) h = refl
+
+  pub always-alone : count ≡ 0 → answers ≡ 0 → alwaysBytes count answers ≡ ascii "always"
+  unfolding alwaysBytes
+  always-alone e f = ap₂ alwaysBytes e f
+
+  pub always-after : count ≡ 0 → (answers ≡ 0 → ⊥) → alwaysBytes count answers ≡ ascii " always"
+  unfolding alwaysBytes
+  always-after e h = ap (λ (k : ℕ). alwaysBytes k answers) e ∙ go answers h
+    where
+      go : (k : ℕ) → (k ≡ 0 → ⊥) → alwaysBytes 0 k ≡ ascii " always"
+      go zero h = absurd (h refl)
+      go (suc k) h = refl
+
+always-is : (ts : List Term) (A : Question) → alwaysText ts A ≡ alwaysBytes (length A) (records ts)
+unfolding alwaysBytes
+always-is ts (a ∷ A) = refl
+always-is [] [] = refl
+always-is (t ∷ ts) [] = refl
+
+-- a member
+module _ {answers count : ℕ} (M : Question) (c : Counted answers count M) where
+  pub member-text : memberLine M ≡ separated (ascii " ") atomText M ++ (alwaysBytes count answers ++ ascii "\n")
+  unfolding memberLine
+  member-text =
+      ap (λ (l : List ℕ). separated (ascii " ") atomText M ++ (l ++ ascii "\n"))
+      (always-is (asking M .answer) (asking M .atoms) ∙ ap₂ alwaysBytes (c .atoms-are) (c .records-are))
+
+  pub member-length : length (memberLine M)
+      ≡ length (separated (ascii " ") atomText M) + length (alwaysBytes count answers) + 1
+  member-length =
+      ap length member-text
+      ∙ length-append (separated (ascii " ") atomText M) (alwaysBytes count answers ++ ascii "\n")
+      ∙ omega (arith, length-append (alwaysBytes count answers) (ascii "\n"))
+
+-- members, each with so many answer records
+module _ (answers : ℕ) (W : List ℕ) (i n : ℕ) where
+  pub members-end : n ≡ 0 → gather memberLine (membersFrom answers W i n) ≡ []
+  members-end e =
+      ap (λ (k : ℕ). gather memberLine (membersFrom answers W i k)) e ∙ ap (gather memberLine) (member-none answers W i)
 
   pub members-next : 0 < n
-      → gather memberLine (membersFrom W i n)
-      ≡ memberLine (questionOf desk (part W i)) ++ gather memberLine (membersFrom W (memberEnd W i) (n - 1))
+      → gather memberLine (membersFrom answers W i n)
+      ≡ memberLine (atomsAt stored W (i + 1) (answers + byte W i))
+      ++ gather memberLine (membersFrom answers W (memberEnd answers W i) (n - 1))
   members-next h =
-      ap (λ (k : ℕ). gather memberLine (membersFrom W i k)) (less-one n h)
-      ∙ ap (gather memberLine) (members-step W i (n - 1))
-      ∙ ap (λ (B : List ℕ). memberLine (questionOf desk B) ++ gather memberLine (membersFrom W (memberEnd W i) (n - 1)))
-      (sym (part-is W i))
+      ap (λ (k : ℕ). gather memberLine (membersFrom answers W i k)) (less-one n h)
+      ∙ ap (gather memberLine) (member-next answers W i (n - 1))
 
   pub members-length : 0 < n
-      → length (gather memberLine (membersFrom W i n))
-      ≡ length (memberLine (questionOf desk (part W i)))
-      + length (gather memberLine (membersFrom W (memberEnd W i) (n - 1)))
+      → length (gather memberLine (membersFrom answers W i n))
+      ≡ length (memberLine (atomsAt stored W (i + 1) (answers + byte W i)))
+      + length (gather memberLine (membersFrom answers W (memberEnd answers W i) (n - 1)))
   members-length h =
       ap length (members-next h)
-      ∙ length-append (memberLine (questionOf desk (part W i)))
-      (gather memberLine (membersFrom W (memberEnd W i) (n - 1)))
+      ∙ length-append (memberLine (atomsAt stored W (i + 1) (answers + byte W i)))
+      (gather memberLine (membersFrom answers W (memberEnd answers W i) (n - 1)))
 
-  module _ (h : 0 < n) (s : Standing W i n) where
-    here : Here W i (n - 1)
-    here = stands-here W i (n - 1) (subst (Standing W i) (less-one n h) s)
-
-    pub stands-first : SoundRecord desk (part W i)
-    stands-first = subst (SoundRecord desk) (sym (part-is W i)) (here .sound)
-
-    pub stands-rest : Standing W (memberEnd W i) (n - 1)
-    stands-rest = here .rest
-
-    -- the first member is within the bytes
-    pub stands-within : memberEnd W i ≤ length W
-    stands-within = here .within
+  -- the first of them, and the others
+  pub first-stands : 0 < n → WrittenAt answers W i n
+      → MemberAt answers W i × WrittenAt answers W (memberEnd answers W i) (n - 1)
+  first-stands h s = written-next answers W i (n - 1) (subst (WrittenAt answers W i) (less-one n h) s)

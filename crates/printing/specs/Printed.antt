@@ -4,10 +4,11 @@ use mathlib.Core.List.{List, [], _∷_, _++_}
 use Prim.Native.Nat.{ℕ, zero, suc, _+_, _/_, _%_}
 use Prim.Native.Char.{code}
 use Prim.Native.String.{String, [] as empty, _∷_ as _then_}
-use lib.Dec.{ltb}
+use lib.Dec.{eqb, ltb}
 use lib.ListN.{length}
 use Rattle.covering.specs.Lists.{gather}
 use Rattle.covering.specs.Term.{Term, var, con, Atom, Question}
+use Rattle.covering.specs.Asking.{answerRelation, asking}
 use Rattle.exploration.specs.Answer.{Result, union, refusal}
 
 -- the bytes of a text, a byte for a character
@@ -38,17 +39,28 @@ module _ {A : Type 0} (mark : List ℕ) (shown : A → List ℕ) where
   abbrev pub marked : List A → List ℕ
   marked xs = gather (λ x. mark ++ shown x) xs
 
-  abbrev pub joined : List A → List ℕ
-  joined [] = []
-  joined (x ∷ xs) = shown x ++ marked xs
+  abbrev pub separated : List A → List ℕ
+  separated [] = []
+  separated (x ∷ xs) = shown x ++ marked xs
 
--- "its atoms as relation number and terms"
+-- "its atoms as relation number", r before it; and of an answer record, "printed `a(v0)`"
+unfoldable pub relationText : ℕ → List ℕ
+relationText r = let numbered = ascii "r" ++ decimal r in cond (eqb r answerRelation) (ascii "a") numbered
+
+-- ".. and terms"
 unfoldable pub atomText : Atom → List ℕ
-atomText a = ascii "r" ++ (decimal (a .rel) ++ (ascii "(" ++ (joined (ascii ",") termText (a .args) ++ ascii ")")))
+atomText a = relationText (a .rel) ++ (ascii "(" ++ (separated (ascii ",") termText (a .args) ++ ascii ")"))
 
--- a member's line, its atoms with a space between two
+-- "printed as `always` after any answer record" (02, c): what stands for the atoms of a member without any
+abbrev pub alwaysText : List Term → Question → List ℕ
+alwaysText ts (a ∷ A) = []
+alwaysText [] [] = ascii "always"
+alwaysText (t ∷ ts) [] = ascii " always"
+
+-- a member's line, its answer record and its atoms with a space between two
 unfoldable pub memberLine : Question → List ℕ
-memberLine M = joined (ascii " ") atomText M ++ ascii "\n"
+memberLine M =
+    separated (ascii " ") atomText M ++ (alwaysText (asking M .answer) (asking M .atoms) ++ ascii "\n")
 
 -- a line of two numbers, each after its words
 unfoldable pub line : List ℕ → ℕ → List ℕ → ℕ → List ℕ

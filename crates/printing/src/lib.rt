@@ -6,10 +6,12 @@ ghost use mathlib.Core.Path.{_≡_};
 ghost use Prim.Native.Nat.{_+_, _≤_};
 ghost use lib.ListN.{length};
 ghost use Rattle.reading.specs.Word.{word as wordAt};
+ghost use Rattle.reading.specs.Verdict.{SoundBook};
 ghost use Rattle.printing.specs.Printed.{printed};
 ghost use Rattle.printing.specs.Answer.{linesOf};
 ghost use Rattle.printing.specs.Printable.{resultIn, Printable};
 ghost use Rattle.printing.specs.Put.{Puts};
+ghost use Rattle.exploration.specs.Refusals.{answersOf};
 use lines::put_line;
 use lines::put_members;
 
@@ -21,11 +23,12 @@ fn word(s: &[u8], i: usize) -> usize
     (s[i] as usize) + 256 * (s[i + 1] as usize)
 }
 
-// Prints what a number, a place and an output say to the front of the text, and answers where it ends.
-fn print(number: u8, place: usize, output: &[u8], text: &mut [u8]) -> usize
-    requires { ⌜ Printable number place (now output) (length (now text)) ⌝ }
+// Prints what a number, a place and an output say, whose members have so many answer records, to the front of the text,
+// and answers where it ends.
+fn print(number: u8, place: usize, output: &[u8], answers: u8, text: &mut [u8]) -> usize
+    requires { ⌜ Printable answers number place (now output) (length (now text)) ⌝ }
     ensures { λ r. ⌜ Puts
-        (printed (resultIn number place (now (output .entry))))
+        (printed (resultIn answers number place (now (output .entry))))
         (now (text .entry))
         0
         r
@@ -38,7 +41,18 @@ fn print(number: u8, place: usize, output: &[u8], text: &mut [u8]) -> usize
     let explored = word(output, 2);
     let first = word(output, 4);
     let end = put_line(text, 0, b"members ", members, b" explored ", explored);
-    put_members(text, end, output, first, members)
+    put_members(text, end, output, first, members, answers)
+}
+
+// How many answer records each member of a book's union has; of a book that is refused nothing is asked.
+fn answer_records(book: &[u8], number: u8) -> u8
+    requires { ⌜ (number ≡ 0 → SoundBook (now book)) ⌝ }
+    ensures { λ r. ⌜ (number ≡ 0 → r ≡ answersOf (now (book .entry))) ⌝ }
+{
+    if number != 0 {
+        return 0;
+    }
+    explore::answer_records(book)
 }
 
 // The bytes that the longest text needs, and more.
@@ -61,5 +75,5 @@ pub fn answer(book: &[u8], text: &mut [u8]) -> usize
     let r = explore::run(book, &mut output);
     let number = r.number;
     let place = r.place;
-    print(number, place, &output, text)
+    print(number, place, &output, answer_records(book, number), text)
 }

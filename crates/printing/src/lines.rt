@@ -1,15 +1,18 @@
 // Atoms, members and lines put into a text.
-ghost use Prim.Native.Nat.{_+_, _*_, _≤_};
+ghost use Prim.Native.Nat.{_+_, _*_, _≤_, _<_};
 ghost use lib.Dec.{T};
 ghost use lib.ListN.{length};
 ghost use Rattle.covering.specs.Lists.{gather};
-ghost use Rattle.covering.specs.Record.{desk, argsAt, atomAt, atomsAt, questionOf, isAtom, areAtoms, SoundRecord};
+ghost use Rattle.covering.specs.Record.{stored, argsAt, atomAt, atomsAt, isAtom, areAtoms};
+ghost use Rattle.covering.specs.Buffer.{AtomsIn};
 ghost use Rattle.exploration.specs.Union.{membersFrom};
-ghost use Rattle.exploration.specs.Standing.{Standing};
-ghost use Rattle.printing.specs.Printed.{ascii, marked, termText, atomText, memberLine, line};
+ghost use Rattle.exploration.specs.Standing.{Counted, WrittenAt};
+ghost use Rattle.printing.specs.Printed.{ascii, marked, separated, termText, atomText, memberLine, line};
+ghost use Rattle.printing.specs.Printable.{alwaysBytes};
 ghost use Rattle.printing.specs.Put.{Puts};
 use super::put::put;
 use super::put::put_decimal;
+use super::put::put_relation;
 use super::put::put_term;
 
 // Puts a line of two numbers, each after its words.
@@ -62,17 +65,16 @@ fn put_terms(text: &mut [u8], at: usize, member: &[u8], i: usize, w: usize) -> u
 // Puts the atom at i.
 fn put_atom(text: &mut [u8], at: usize, member: &[u8], i: usize) -> usize
     requires { ⌜ (i + 5 ≤ length (now member))
-        × T (isAtom desk (now member) i)
-        × (at + length (atomText (atomAt desk (now member) i)) ≤ length (now text)) ⌝ }
+        × T (isAtom stored (now member) i)
+        × (at + length (atomText (atomAt stored (now member) i)) ≤ length (now text)) ⌝ }
     ensures { λ r. ⌜ Puts
-        (atomText (atomAt desk (now (member .entry)) i))
+        (atomText (atomAt stored (now (member .entry)) i))
         (now (text .entry))
         at
         r
         (now (text .exit)) ⌝ }
 {
-    let relation = put(text, at, b"r");
-    let open = put_decimal(text, relation, member[i] as usize);
+    let open = put_relation(text, at, member[i]);
     let first = put(text, open, b"(");
     let rest = put_term(text, first, member[i + 1]);
     let close = put_terms(text, rest, member, i + 2, 3);
@@ -82,10 +84,10 @@ fn put_atom(text: &mut [u8], at: usize, member: &[u8], i: usize) -> usize
 // Puts n atoms from i on, with a space before each.
 fn put_atoms(text: &mut [u8], at: usize, member: &[u8], i: usize, n: usize) -> usize
     requires { ⌜ (i + n * 5 ≤ length (now member))
-        × T (areAtoms desk (now member) i n)
-        × (at + length (marked (ascii " ") atomText (atomsAt desk (now member) i n)) ≤ length (now text)) ⌝ }
+        × T (areAtoms stored (now member) i n)
+        × (at + length (marked (ascii " ") atomText (atomsAt stored (now member) i n)) ≤ length (now text)) ⌝ }
     ensures { λ r. ⌜ Puts
-        (marked (ascii " ") atomText (atomsAt desk (now (member .entry)) i n))
+        (marked (ascii " ") atomText (atomsAt stored (now (member .entry)) i n))
         (now (text .entry))
         at
         r
@@ -99,29 +101,12 @@ fn put_atoms(text: &mut [u8], at: usize, member: &[u8], i: usize, n: usize) -> u
     put_atoms(text, end, member, i + 5, n - 1)
 }
 
-// Puts a member's line.
-fn put_member(text: &mut [u8], at: usize, member: &[u8]) -> usize
-    requires { ⌜ SoundRecord desk (now member)
-        × (at + length (memberLine (questionOf desk (now member))) ≤ length (now text)) ⌝ }
+// Puts n atoms from i on, with a space between two.
+fn put_all(text: &mut [u8], at: usize, output: &[u8], i: usize, n: usize) -> usize
+    requires { ⌜ AtomsIn stored (now output) i n
+        × (at + length (separated (ascii " ") atomText (atomsAt stored (now output) i n)) ≤ length (now text)) ⌝ }
     ensures { λ r. ⌜ Puts
-        (memberLine (questionOf desk (now (member .entry))))
-        (now (text .entry))
-        at
-        r
-        (now (text .exit)) ⌝ }
-{
-    let n = member[0] as usize;
-    let rest = put_atom(text, at, member, 1);
-    let end = put_atoms(text, rest, member, 6, n - 1);
-    put(text, end, b"\n")
-}
-
-// Puts the lines of n members, which stand from i on.
-pub fn put_members(text: &mut [u8], at: usize, output: &[u8], i: usize, n: usize) -> usize
-    requires { ⌜ Standing (now output) i n
-        × (at + length (gather memberLine (membersFrom (now output) i n)) ≤ length (now text)) ⌝ }
-    ensures { λ r. ⌜ Puts
-        (gather memberLine (membersFrom (now (output .entry)) i n))
+        (separated (ascii " ") atomText (atomsAt stored (now (output .entry)) i n))
         (now (text .entry))
         at
         r
@@ -130,8 +115,71 @@ pub fn put_members(text: &mut [u8], at: usize, output: &[u8], i: usize, n: usize
     if n == 0 {
         return at;
     }
-    let next = i + cover::width(output[i]);
-    let member = &output[i..];
-    let end = put_member(text, at, member);
-    put_members(text, end, output, next, n - 1)
+    let rest = put_atom(text, at, output, i);
+    put_atoms(text, rest, output, i + 5, n - 1)
+}
+
+// Puts what stands for the atoms of a member without any, after its answer record if it has one.
+fn put_always(text: &mut [u8], at: usize, count: u8, answers: u8) -> usize
+    requires { ⌜ at + length (alwaysBytes count answers) ≤ length (now text) ⌝ }
+    ensures { λ r. ⌜ Puts (alwaysBytes count answers) (now (text .entry)) at r (now (text .exit)) ⌝ }
+{
+    if count != 0 {
+        return at;
+    }
+    if answers == 0 {
+        return put(text, at, b"always");
+    }
+    put(text, at, b" always")
+}
+
+// Puts a member's line: its answer records from i on and the atoms that it counts.
+fn put_member(text: &mut [u8], at: usize, output: &[u8], i: usize, count: u8, answers: u8) -> usize
+    requires { ⌜ AtomsIn stored (now output) i (answers + count)
+        × Counted answers count (atomsAt stored (now output) i (answers + count))
+        × (answers + count < 256)
+        × (at + length (memberLine (atomsAt stored (now output) i (answers + count))) ≤ length (now text)) ⌝ }
+    ensures { λ r. ⌜ Puts
+        (memberLine (atomsAt stored (now (output .entry)) i (answers + count)))
+        (now (text .entry))
+        at
+        r
+        (now (text .exit)) ⌝ }
+{
+    let atoms = put_all(text, at, output, i, (answers + count) as usize);
+    let end = put_always(text, atoms, count, answers);
+    put(text, end, b"\n")
+}
+
+// Puts the lines of n members, which stand from i on, each with so many answer records before the atoms that it counts.
+pub fn put_members(
+    text: &mut [u8],
+    at: usize,
+    output: &[u8],
+    i: usize,
+    n: usize,
+    answers: u8,
+) -> usize
+    requires { ⌜ WrittenAt answers (now output) i n
+        × (at + length (gather memberLine (membersFrom answers (now output) i n)) ≤ length (now text)) ⌝ }
+    ensures { λ r. ⌜ Puts
+        (gather memberLine (membersFrom answers (now (output .entry)) i n))
+        (now (text .entry))
+        at
+        r
+        (now (text .exit)) ⌝ }
+{
+    if n == 0 {
+        return at;
+    }
+    let count = output[i];
+    let end = put_member(text, at, output, i + 1, count, answers);
+    put_members(
+        text,
+        end,
+        output,
+        i + cover::width(answers + count),
+        n - 1,
+        answers,
+    )
 }

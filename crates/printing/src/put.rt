@@ -3,7 +3,7 @@ ghost use Prim.Native.Nat.{_+_, _≤_, _<_};
 ghost use mathlib.Core.List.{[], _∷_};
 ghost use lib.ListN.{length};
 ghost use Rattle.covering.specs.Record.{termOf};
-ghost use Rattle.printing.specs.Printed.{decimal, termText, figure};
+ghost use Rattle.printing.specs.Printed.{decimal, termText, relationText, figure};
 ghost use Rattle.printing.specs.Put.{Puts};
 
 // Puts the bytes.
@@ -52,4 +52,16 @@ pub fn put_term(text: &mut [u8], at: usize, b: u8) -> usize
     }
     let constant = put(text, at, b"c");
     put_decimal(text, constant, (b - 128) as usize)
+}
+
+// Puts an atom's relation: its number, or the letter of an answer record.
+pub fn put_relation(text: &mut [u8], at: usize, r: u8) -> usize
+    requires { ⌜ at + length (relationText r) ≤ length (now text) ⌝ }
+    ensures { λ e. ⌜ Puts (relationText r) (now (text .entry)) at e (now (text .exit)) ⌝ }
+{
+    if r == 255 {
+        return put(text, at, b"a");
+    }
+    let end = put(text, at, b"r");
+    put_decimal(text, end, r as usize)
 }

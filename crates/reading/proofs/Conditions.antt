@@ -1,29 +1,28 @@
 -- Each test of `Verdict` is passed exactly where the condition of its number in `Refusals` does not apply, and each
 -- search finds the earliest place at which it does. Assumes nothing.
 use mathlib.Core.Path.{_≡_, refl, sym, subst}
-use mathlib.Core.Bool.{Bool, true, false, not}
-use mathlib.Core.Logic.{_⊎_, inl, inr}
+use mathlib.Core.Bool.{Bool, true, false, not, _||_}
+use mathlib.Core.Logic.{_⊎_, inl, inr, ⊎-elim}
 use mathlib.Core.List.{List}
 use mathlib.Core.Option.{none}
-use Prim.Native.Nat.{ℕ, zero, suc, _+_, _*_, _-_, _≤_, _<_}
+use Prim.Native.Nat.{ℕ, zero, suc, _+_, _-_, _≤_, _<_}
 use native.Mathlib.Omega.{arith}
 use lib.Dec.{T, eqb, leb, eqb→eq, leb→le}
 use lib.ListN.{length}
-use Rattle.covering.proofs.Tests.{decide, clash, fst-of, snd-of, none≢some, le-or-lt}
+use Rattle.covering.proofs.Tests.{decide, clash, fst-of, snd-of, or-left, or-right, or-cases, none≢some, le-or-lt}
 use Rattle.reading.specs.Word.{byte}
 use Rattle.reading.specs.Header.{headerSize, relations, constants, rules, atoms, allowed, relationsAt, rulesAt}
 use Rattle.reading.specs.Header.{questionAt, headerOf, inside, relationsRange, totalWord}
 use Rattle.reading.specs.Header.{constantsRange, rulesRange, atomsRange, allowedRange, placesRange, bodyRange}
-use Rattle.reading.specs.Header.{headRange, atomSize}
-use Rattle.reading.specs.Book.{bodyCount, headCount, bodyAt, ruleEnd, after, rulesStart, ruleStart}
+use Rattle.reading.specs.Header.{headRange, endWithout, endWith}
+use Rattle.reading.specs.Book.{bodyCount, headCount, ruleEnd, after, rulesStart, ruleStart}
 use Rattle.reading.specs.Refusals.{Short, OutsideTable, relations-out, constants-out, rules-out, atoms-out}
 use Rattle.reading.specs.Refusals.{allowed-out, OffsetWrong, relations-not, rules-not, question-below, total-not}
 use Rattle.reading.specs.Refusals.{length-not, PlacesWrong, RuleWrong, body-count, head-count, runs-past}
-use Rattle.reading.specs.Refusals.{end-before, AtomOf, in-body, in-head, in-question, AtomWrong, ByteWrong}
-use Rattle.reading.specs.Verdict.{unless, inTable, offsetsRight, wrongPlaces, ruleRight, wrongRule, wrongByte}
-use Rattle.reading.proofs.Earliest.{Earliest, holds-nowhere, earliest-same, earliest-test, earliest-else}
-use Rattle.reading.proofs.Found.{PlacesFrom, places-earliest, RulesFrom, rules-earliest, AtomsFrom}
-use Rattle.reading.proofs.Found.{atoms-earliest, atoms-from, RuleBytes, bytes-earliest, bytes-to}
+use Rattle.reading.specs.Refusals.{end-before}
+use Rattle.reading.specs.Verdict.{unless, inTable, offsetsRight, wrongPlaces, ruleRight, wrongRule}
+use Rattle.reading.proofs.Earliest.{Earliest, holds-nowhere, earliest-same, earliest-test}
+use Rattle.reading.proofs.Found.{PlacesFrom, places-earliest, RulesFrom, rules-earliest}
 use Rattle.reading.proofs.Ranges.{inside-not, outside, either, eq-not, le-not}
 
 module _ (B : List ℕ) where
@@ -78,16 +77,40 @@ module _ (B : List ℕ) where
       earliest-same (λ p w. (w .0, table-out (w .1))) (λ p w. (w .0, λ t. table-not t (w .1)))
       (earliest-test (λ p. inTable (headerOf B)) 0)
 
-  -- 4
+  -- 4: the total is one of the two, without an answer record and with one
+  abbrev pub OneTotal : Type 0
+  OneTotal =
+      (totalWord B ≡ endWithout (questionAt B) (atoms B)) ⊎ (totalWord B ≡ endWith (questionAt B) (atoms B))
+
   pub record OffsetsRight : Type 0 where
     pub relations-at : relationsAt B ≡ headerSize
     pub rules-at : rulesAt B ≡ headerSize + relations B
     pub question-at : rulesAt B ≤ questionAt B
-    pub total-is : totalWord B ≡ questionAt B + atomSize * atoms B
+    pub total-is : OneTotal
     pub length-is : totalWord B ≡ length B
 
+  totals : Bool
+  totals =
+      eqb (totalWord B) (endWithout (questionAt B) (atoms B)) || eqb (totalWord B) (endWith (questionAt B) (atoms B))
+
+  one-total : T totals → OneTotal
+  unfolding totals
+  one-total t = go (or-cases (eqb (totalWord B) (endWithout (questionAt B) (atoms B))) _ t)
+    where
+      go : T (eqb (totalWord B) (endWithout (questionAt B) (atoms B)))
+          ⊎ T (eqb (totalWord B) (endWith (questionAt B) (atoms B))) → OneTotal
+      go (inl h) = inl (eqb→eq _ _ h)
+      go (inr h) = inr (eqb→eq _ _ h)
+
+  neither-total : (T totals → ⊥) → OffsetWrong B
+  unfolding totals
+  neither-total f =
+      total-not
+      (eq-not (λ t. f (or-left (eqb (totalWord B) (endWithout (questionAt B) (atoms B))) _ t)))
+      (eq-not (λ t. f (or-right (eqb (totalWord B) (endWithout (questionAt B) (atoms B))) _ t)))
+
   pub offsets-right : T (offsetsRight (headerOf B) (length B)) → OffsetsRight
-  unfolding offsetsRight
+  unfolding offsetsRight totals
   offsets-right t =
       let t₂ = snd-of (eqb (relationsAt B) headerSize) _ t in
       let t₃ = snd-of (eqb (rulesAt B) (headerSize + relations B)) _ t₂ in
@@ -96,24 +119,24 @@ module _ (B : List ℕ) where
         relations-at = eqb→eq _ _ (fst-of (eqb (relationsAt B) headerSize) _ t);
         rules-at = eqb→eq _ _ (fst-of (eqb (rulesAt B) (headerSize + relations B)) _ t₂);
         question-at = leb→le _ _ (fst-of (leb (rulesAt B) (questionAt B)) _ t₃);
-        total-is = eqb→eq _ _ (fst-of (eqb (totalWord B) (questionAt B + atomSize * atoms B)) _ t₄);
-        length-is = eqb→eq _ _ (snd-of (eqb (totalWord B) (questionAt B + atomSize * atoms B)) _ t₄);
+        total-is = one-total (fst-of totals _ t₄);
+        length-is = eqb→eq _ _ (snd-of totals _ t₄);
       }
 
   offsets-not : T (offsetsRight (headerOf B) (length B)) → OffsetWrong B → ⊥
   offsets-not t (relations-not f) = f (offsets-right t .relations-at)
   offsets-not t (rules-not f) = f (offsets-right t .rules-at)
   offsets-not t (question-below l) = let h = offsets-right t .question-at in omega arith
-  offsets-not t (total-not f) = f (offsets-right t .total-is)
+  offsets-not t (total-not f g) = ⊎-elim f g (offsets-right t .total-is)
   offsets-not t (length-not f) = f (offsets-right t .length-is)
 
   offsets-wrong : (T (offsetsRight (headerOf B) (length B)) → ⊥) → OffsetWrong B
-  unfolding offsetsRight
+  unfolding offsetsRight totals
   offsets-wrong =
       either (eqb (relationsAt B) headerSize) _ (λ f. relations-not (eq-not f))
       (either (eqb (rulesAt B) (headerSize + relations B)) _ (λ f. rules-not (eq-not f))
       (either (leb (rulesAt B) (questionAt B)) _ (λ f. question-below (le-not f))
-      (either (eqb (totalWord B) (questionAt B + atomSize * atoms B)) _ (λ f. total-not (eq-not f))
+      (either totals _ neither-total
       (λ f. length-not (eq-not f)))))
 
   pub offsets-earliest : Earliest (λ p. (p ≡ 0) × OffsetWrong B) (unless (offsetsRight (headerOf B) (length B)) 0)
@@ -181,51 +204,6 @@ module _ (B : List ℕ) where
       from p (head-count k l e o) = inl (k, l, e, λ t. inside-not headRange (rule-right _ p t .head-in) o)
       from p (runs-past k l e o) = inl (k, l, e, λ t. let h = rule-right _ p t .ends in omega arith)
       from p (end-before e l) = inr (e, λ t. let h : questionAt B ≤ p = leb→le _ _ t in omega arith)
-
-  -- 7, where the rules end no later than the question starts
-  ByteFrom : ℕ → Type 0
-  ByteFrom p = RuleBytes B (rulesStart B) (rules B) p ⊎ AtomsFrom B (questionAt B) (atoms B) p
-
-  byte-to : (p : ℕ) → ByteFrom p → ByteWrong B p
-  unfolding ByteFrom
-  byte-to p (inl w) = go (w .2 .0) (w .2 .1) (w .2 .2) (le-or-lt (bodyCount B s) (w .2 .0))
-    where
-      s : ℕ
-      s = ruleStart B (w .0)
-
-      go : (j : ℕ) → j < bodyCount B (ruleStart B (w .0)) + headCount B (ruleStart B (w .0))
-          → AtomWrong B (bodyAt B (ruleStart B (w .0)) + atomSize * j) p
-          → (bodyCount B (ruleStart B (w .0)) ≤ j) ⊎ (j < bodyCount B (ruleStart B (w .0))) → ByteWrong B p
-      go j l v (inl h) =
-          record {
-            atom = bodyAt B (ruleStart B (w .0)) + atomSize * j;
-            isAtom = in-head (w .0) (j - bodyCount B (ruleStart B (w .0))) (w .1) (omega arith) (omega arith);
-            wrong = v;
-          }
-      go j l v (inr h) =
-          record {
-            atom = bodyAt B (ruleStart B (w .0)) + atomSize * j;
-            isAtom = in-body (w .0) j (w .1) h refl;
-            wrong = v;
-          }
-  byte-to p (inr w) = record { atom = _; isAtom = in-question (w .0) (w .1) refl; wrong = w .2 }
-
-  byte-from : (p i : ℕ) → AtomOf B i → AtomWrong B i p → ByteFrom p
-  unfolding ByteFrom
-  byte-from p i (in-body k j l h e) v =
-      inl (k, l, (j, omega arith, subst (λ (a : ℕ). AtomWrong B a p) e v))
-  byte-from p i (in-head k j l h e) v =
-      let s = ruleStart B k in
-      let d : i ≡ bodyAt B s + atomSize * (bodyCount B s + j) = omega arith in
-      inl (k, l, (bodyCount B s + j, omega arith, subst (λ (a : ℕ). AtomWrong B a p) d v))
-  byte-from p i (in-question j h e) v = inr (j, h, subst (λ (a : ℕ). AtomWrong B a p) e v)
-
-  pub byte-earliest : ruleStart B (rules B) ≤ questionAt B → Earliest (ByteWrong B) (wrongByte B)
-  unfolding ByteFrom wrongByte
-  byte-earliest h =
-      earliest-same byte-to (λ p w. byte-from p (w .atom) (w .isAtom) (w .wrong))
-      (earliest-else (bytes-earliest B (rulesStart B) (rules B)) (atoms-earliest B (questionAt B) (atoms B))
-      (λ p q v w. omega (arith, bytes-to B (rulesStart B) (rules B) p v, atoms-from B (questionAt B) (atoms B) q w)))
 
 -- a test that finds nothing is passed
 pub unless-none : (b : Bool) (i : ℕ) → unless b i ≡ none → T b

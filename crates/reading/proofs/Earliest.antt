@@ -1,10 +1,10 @@
 -- A search for the earliest place: what it means that it finds it, and how such searches are put together.
 -- Assumes nothing.
 use mathlib.Core.Path.{_≡_, refl, sym, subst}
-use mathlib.Core.Bool.{Bool, true, false}
+use mathlib.Core.Bool.{Bool, true, false, cond}
 use mathlib.Core.Logic.{_⊎_, inl, inr}
 use mathlib.Core.Option.{Option, none, some}
-use Prim.Native.Nat.{ℕ, _+_, _≤_, _<_}
+use Prim.Native.Nat.{ℕ, zero, suc, _+_, _≤_, _<_}
 use native.Mathlib.Omega.{arith}
 use lib.Dec.{T}
 use Rattle.covering.specs.Lists.{orElse}
@@ -53,3 +53,32 @@ here-or-later w v h = go (le-or-lt v w)
     go : (v ≤ w) ⊎ (w < v) → (v ≡ w) ⊎ (w + 1 ≤ v)
     go (inl l) = inl (omega arith)
     go (inr l) = inr (omega arith)
+
+-- a search that is made only where a test is passed
+pub earliest-where : (b : Bool) {W : ℕ → Type 0} {o : Option ℕ} → Earliest W o
+    → Earliest (λ p. T b × W p) (cond b o none)
+earliest-where true e = earliest-same (λ p w. (tt, w)) (λ p w. w .1) e
+earliest-where false e = nowhere (λ p w. w .0)
+
+-- n places from i on are tested, one after the other: the search is given by its two lines
+abbrev pub Failing : (ℕ → Bool) → ℕ → ℕ → ℕ → Type 0
+Failing t i n p = (i ≤ p) × (p < i + n) × (T (t p) → ⊥)
+
+pub earliest-each : (t : ℕ → Bool) (search : ℕ → ℕ → Option ℕ) → ((i : ℕ) → search i 0 ≡ none)
+    → ((i n : ℕ) → search i (suc n) ≡ orElse (unless (t i) i) (search (i + 1) n))
+    → (i n : ℕ) → Earliest (Failing t i n) (search i n)
+earliest-each t search last more i zero =
+    subst (Earliest (Failing t i 0)) (sym (last i)) (nowhere (λ p w. omega arith))
+earliest-each t search last more i (suc n) =
+    subst (Earliest (Failing t i (suc n))) (sym (more i n))
+    (earliest-same join (λ p w. part p w (here-or-later i p (w .0)))
+    (earliest-else (earliest-test t i) (earliest-each t search last more (i + 1) n) (λ p q v w. omega arith)))
+  where
+    join : (p : ℕ) → ((p ≡ i) × (T (t p) → ⊥)) ⊎ Failing t (i + 1) n p → Failing t i (suc n) p
+    join p (inl v) = (omega arith, omega arith, v .1)
+    join p (inr w) = (omega arith, omega arith, w .2)
+
+    part : (p : ℕ) → Failing t i (suc n) p → (p ≡ i) ⊎ (i + 1 ≤ p)
+        → ((p ≡ i) × (T (t p) → ⊥)) ⊎ Failing t (i + 1) n p
+    part p w (inl e) = inl (e, w .2)
+    part p w (inr l) = inr (l, omega arith, w .2)

@@ -1,5 +1,5 @@
 -- The verdict is exactly right, for every list of bytes: "The smallest applicable number among 1 to 7 wins, and within
--- it the earliest place." Assumes nothing.
+-- it the earliest place."; 11 comes after 7. Assumes nothing.
 use mathlib.Core.Path.{_≡_, refl, sym, _∙_, subst}
 use mathlib.Core.Logic.{_⊎_, inl, inr, ⊎-elim}
 use mathlib.Core.List.{List}
@@ -12,12 +12,14 @@ use Rattle.reading.specs.declared.Refusal.{Refusal}
 use Rattle.reading.specs.Header.{headerSize, relations, rules, questionAt, headerOf}
 use Rattle.reading.specs.Book.{rulesStart, ruleStart}
 use Rattle.reading.specs.Refusals.{Short, OutsideTable, OffsetWrong, PlacesWrong, RuleWrong, ByteWrong}
-use Rattle.reading.specs.Refusals.{ApplicableToBook, two, three, four, five, six, seven}
+use Rattle.reading.specs.Refusals.{LooseVariable}
+use Rattle.reading.specs.Refusals.{ApplicableToBook, two, three, four, five, six, seven, eleven}
 use Rattle.reading.specs.Verdict.{accepted, NoLater, IsVerdict, sound, refused, unless, inTable, offsetsRight}
-use Rattle.reading.specs.Verdict.{wrongPlaces, wrongRule, wrongByte, refuse, contents, verdict}
+use Rattle.reading.specs.Verdict.{wrongPlaces, wrongRule, wrongByte, looseVariable, refuse, contents, verdict}
 use Rattle.reading.proofs.Earliest.{Earliest, nowhere, first, earliest-same, here-or-later}
 use Rattle.reading.proofs.Conditions.{short-earliest, table-earliest, offsets-earliest, relation-earliest}
-use Rattle.reading.proofs.Conditions.{rule-earliest, byte-earliest, offsets-right, unless-none, rules-end}
+use Rattle.reading.proofs.Conditions.{rule-earliest, offsets-right, unless-none, rules-end}
+use Rattle.reading.proofs.ByteConditions.{byte-earliest, variable-earliest}
 
 module _ (B : List ℕ) where
   -- the verdict among the numbers from n on
@@ -66,6 +68,9 @@ module _ (B : List ℕ) where
   says-seven : {p : ℕ} → ApplicableToBook B 7 p → ByteWrong B p
   says-seven (seven s) = s
 
+  says-eleven : {p : ℕ} → ApplicableToBook B 11 p → LooseVariable B p
+  says-eleven (eleven s) = s
+
   pub number-from : {n p : ℕ} → ApplicableToBook B n p → 2 ≤ n
   number-from (two s) = omega arith
   number-from (three s) = omega arith
@@ -73,14 +78,30 @@ module _ (B : List ℕ) where
   number-from (five s) = omega arith
   number-from (six s) = omega arith
   number-from (seven s) = omega arith
+  number-from (eleven s) = omega arith
 
-  number-to : {n p : ℕ} → ApplicableToBook B n p → n < 8
+  number-to : {n p : ℕ} → ApplicableToBook B n p → n < 12
   number-to (two s) = omega arith
   number-to (three s) = omega arith
   number-to (four s) = omega arith
   number-to (five s) = omega arith
   number-to (six s) = omega arith
   number-to (seven s) = omega arith
+  number-to (eleven s) = omega arith
+
+  -- 8, 9 and 10 are not the book's own
+  number-after : {n p : ℕ} → ApplicableToBook B n p → 8 ≤ n → 11 ≤ n
+  number-after (two s) l = absurd (omega arith)
+  number-after (three s) l = absurd (omega arith)
+  number-after (four s) l = absurd (omega arith)
+  number-after (five s) l = absurd (omega arith)
+  number-after (six s) l = absurd (omega arith)
+  number-after (seven s) l = absurd (omega arith)
+  number-after (eleven s) l = omega arith
+
+  after-seven : {r : Refusal} → From 11 r → From 8 r
+  after-seven (all-sound e f) = all-sound e (λ m p l a. f m p (number-after a l) a)
+  after-seven (one-refused b f) = one-refused b (λ m q l a. f m q (number-after a l) a)
 
   at-start : {W : Type 0} (n : ℕ) → (W → ApplicableToBook B n 0) → (p : ℕ) → (p ≡ 0) × W → ApplicableToBook B n p
   at-start n f p w = subst (λ (q : ℕ). ApplicableToBook B n q) (sym (w .0)) (f (w .1))
@@ -103,6 +124,9 @@ module _ (B : List ℕ) where
   seven-earliest : ruleStart B (rules B) ≤ questionAt B → Earliest (ApplicableToBook B 7) (wrongByte B)
   seven-earliest h = earliest-same (λ p. seven) (λ p a. says-seven a) (byte-earliest B h)
 
+  eleven-earliest : Earliest (ApplicableToBook B 11) (looseVariable B)
+  eleven-earliest = earliest-same (λ p. eleven) (λ p a. says-eleven a) (variable-earliest B)
+
   -- where 4 and 6 do not apply, the rules end where the question starts
   pub rules-end-at : T (offsetsRight (headerOf B) (length B))
       → wrongRule B (questionAt B) (rulesStart B) (rules B) ≡ none
@@ -124,7 +148,9 @@ module _ (B : List ℕ) where
       step 6 _ six-earliest λ e₆.
       let t = unless-none (offsetsRight (headerOf B) (length B)) 0 e₄ in
       step 7 _ (seven-earliest (omega (arith, rules-end-at t e₆))) λ e₇.
-      all-sound refl (λ m p l a. let h = number-to a in omega arith))
+      after-seven
+      (step 11 _ eleven-earliest λ e₁₁.
+      all-sound refl (λ m p l a. let h = number-to a in omega arith)))
     where
       settled : From 2 (verdict B) → IsVerdict B (verdict B)
       settled (all-sound e f) = sound e (λ n p a. f n p (number-from a) a)

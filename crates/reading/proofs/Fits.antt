@@ -1,6 +1,6 @@
 -- The book that a sound book's bytes mean keeps to its own numbers: relations below P, variables below 32, constants
--- below C, one to four terms in each atom; bodies of one to four atoms, a question of one to eight, and a number of
--- members allowed of at most 1,000. Assumes nothing.
+-- below C, one to four terms in each atom; bodies of one to four atoms, a question of one to eight with or without an
+-- answer record, and a number of members allowed of at most 1,000. Assumes nothing.
 use mathlib.Core.Path.{_≡_, sym, _∙_, ap, subst}
 use mathlib.Core.Bool.{_&&_}
 use mathlib.Core.Logic.{_⊎_, inl, inr}
@@ -8,38 +8,37 @@ use mathlib.Core.List.{List}
 use Prim.Native.Nat.{ℕ, _+_, _*_, _≤_, _<_}
 use native.Mathlib.Omega.{arith}
 use lib.Dec.{T, ltb, leb, ltb→lt, leb→le}
-use lib.ListN.{length}
+use lib.ListN.{length, length-take, drop}
 use Rattle.covering.specs.Lists.{_∈_}
 use Rattle.covering.specs.Term.{Atom}
-use Rattle.covering.specs.Record.{Layout, desk, termOf, atomAt, atomsAt, TermFits, AtomFits, Fits}
-use Rattle.covering.proofs.Tests.{or-cases, fst-of, snd-of, le-or-lt}
-use Rattle.covering.proofs.Bytes.{term-var, term-con}
+use Rattle.covering.specs.Asking.{answerRelation, joined, NoRecord}
+use Rattle.covering.specs.Record.{Layout, stored, termOf, atomAt, atomsAt, isRelation, TermFits, AtomFits, Fits}
+use Rattle.covering.proofs.Tests.{or-cases, fst-of, snd-of, le-or-lt, true→T}
+use Rattle.covering.proofs.Bytes.{term-var, term-con, relation-in}
 use Rattle.covering.proofs.Places.{relation-at, atom-each, atoms-each}
 use Rattle.covering.proofs.Lengths.{count-atoms}
 use Rattle.covering.specs.Rule.{Rule}
 use Rattle.reading.specs.Word.{byte}
-use Rattle.reading.specs.Header.{constants, rules, atoms, questionAt, constantsRange, atomSize, variables}
-use Rattle.reading.specs.Book.{bodyCount, ruleAt, ruleStart, rulesStart, placesOf, bookOf}
+use Rattle.reading.specs.Header.{constants, rules, atoms, questionAt, constantsRange, atomsRange, atomSize}
+use Rattle.reading.specs.Header.{variables, announced, answerRecords, questionAtomsAt, relations, headerSize}
+use Rattle.reading.specs.Book.{bodyCount, ruleAt, ruleStart, rulesStart, bookOf, layoutOf}
 use Rattle.reading.specs.Refusals.{usedAllowed}
 use Rattle.reading.specs.Verdict.{SoundBook}
-use Rattle.reading.proofs.SoundBook.{AtomRight, used-place, unused-place, right-places, BookRoom, sound-rule}
-use Rattle.reading.proofs.SoundBook.{sound-question, sound-header}
-use Rattle.reading.proofs.Reading.{book-rules, book-question, book-allowed, rule-body, rule-head, rule-from}
+use Rattle.reading.proofs.SoundBook.{UsedRight, AtomRight, used-place, unused-place, used-places, BookRoom}
+use Rattle.reading.proofs.SoundBook.{own-room, stored-room, sound-header, sound-rule}
+use Rattle.reading.proofs.SoundQuestion.{sound-question, each-standing, is-answer, records-few}
+use Rattle.reading.proofs.Reading.{book-rules, book-atoms, book-allowed, rule-body, rule-head, rule-from}
+use Rattle.reading.proofs.QuestionRead.{joined-question, right-free}
+use Rattle.reading.proofs.Reading.{book-places}
 
 -- where a rule of the book starts
-rule-at : (B : List ℕ) (r : Rule) → r ∈ bookOf B .rules → (k : ℕ) × (k < rules B) × (r ≡ ruleAt B (ruleStart B k))
+pub rule-at : (B : List ℕ) (r : Rule) → r ∈ bookOf B .rules → (k : ℕ) × (k < rules B) × (r ≡ ruleAt B (ruleStart B k))
 rule-at B r m = rule-from B (rulesStart B) (rules B) (subst (λ (l : List Rule). r ∈ l) (book-rules B) m)
 
 -- how many there are
 module _ (B : List ℕ) (s : SoundBook B) where
   body-count : (k : ℕ) → length (ruleAt B (ruleStart B k) .body) ≡ bodyCount B (ruleStart B k)
-  body-count k = ap length (rule-body B (ruleStart B k)) ∙ count-atoms desk B _ _
-
-  pub body-some : (r : Rule) → r ∈ bookOf B .rules → 1 ≤ length (r .body)
-  body-some r m =
-      let k = rule-at B r m in
-      subst (λ (x : Rule). 1 ≤ length (x .body)) (sym (k .2))
-      (omega (arith, body-count (k .0), sound-rule B s (k .0) (k .1) .some-body))
+  body-count k = ap length (rule-body B (ruleStart B k)) ∙ count-atoms stored B _ _
 
   pub body-few : (r : Rule) → r ∈ bookOf B .rules → length (r .body) ≤ 4
   body-few r m =
@@ -47,14 +46,28 @@ module _ (B : List ℕ) (s : SoundBook B) where
       subst (λ (x : Rule). length (x .body) ≤ 4) (sym (k .2))
       (omega (arith, body-count (k .0), sound-rule B s (k .0) (k .1) .few-body))
 
-  question-count : length (bookOf B .question) ≡ atoms B
-  question-count = ap length (book-question B) ∙ count-atoms desk B (atoms B) (questionAt B)
+  question-count : length (bookOf B .question .atoms) ≡ atoms B
+  question-count = ap length (book-atoms B) ∙ count-atoms stored B (atoms B) (questionAtomsAt B)
 
-  pub question-some : 1 ≤ length (bookOf B .question)
+  pub question-some : 1 ≤ length (bookOf B .question .atoms)
   question-some = omega (arith, question-count, sound-question B s .some-atom)
 
-  pub question-few : length (bookOf B .question) ≤ 8
+  pub question-few : length (bookOf B .question .atoms) ≤ 8
   question-few = omega (arith, question-count, sound-question B s .few-atoms)
+
+  -- its answer record counts as an atom of the whole
+  pub joined-count : length (joined (bookOf B .question)) ≡ answerRecords B + atoms B
+  joined-count = ap length (joined-question B s) ∙ count-atoms stored B (answerRecords B + atoms B) (questionAt B)
+
+  -- at most 64 relations
+  pub places-few : length (bookOf B .places) ≤ 64
+  places-few =
+      omega (
+        arith,
+        ap length (book-places B),
+        length-take (relations B) (drop headerSize B),
+        sound-header B s .few-relations,
+      )
 
   pub allowed-few : bookOf B .allowed ≤ 1000
   allowed-few = omega (arith, book-allowed B, sound-header B s .few-allowed)
@@ -73,18 +86,20 @@ module _ (B : List ℕ) (L : Layout) (room : BookRoom B L) where
           let m : b < 128 + constants B = ltb→lt _ _ (snd-of (leb 128 b) (ltb b (128 + constants B)) h) in
           subst (TermFits L) (sym (term-con b l)) (omega (arith, room .constants-fit))
 
-  right-fits : constants B ≤ constantsRange .most → {i : ℕ} → AtomRight B i → AtomFits L (atomAt desk B i)
-  right-fits c {i} a =
-      let n = right-places B a c in
+  -- an atom of a relation of the layout, with u places used
+  atom-fits : constants B ≤ constantsRange .most → {i u : ℕ} → UsedRight B i u → T (isRelation L (byte B i))
+      → AtomFits L (atomAt stored B i)
+  atom-fits c {i} {u} a r =
+      let n = used-places B a c in
       record {
-        relation = omega (arith, relation-at desk B i, a .relation, room .relations-fit);
+        relation = subst (λ (b : ℕ). T (isRelation L b)) (sym (relation-at stored B i)) r;
         some-place = omega (arith, n, a .some-place);
         places = omega (arith, n, a .few-places, room .places-are);
-        terms = atom-each desk B (TermFits L) i (λ w l f. each w l f (le-or-lt (placesOf B (byte B i)) w));
+        terms = atom-each stored B (TermFits L) i (λ w l f. each w l f (le-or-lt u w));
       }
     where
-      each : (w : ℕ) → w < desk .places → (byte B (i + 1 + w) ≡ 255 → ⊥)
-          → (placesOf B (byte B i) ≤ w) ⊎ (w < placesOf B (byte B i)) → TermFits L (termOf (byte B (i + 1 + w)))
+      each : (w : ℕ) → w < stored .places → (byte B (i + 1 + w) ≡ 255 → ⊥) → (u ≤ w) ⊎ (w < u)
+          → TermFits L (termOf (byte B (i + 1 + w)))
       each w l f (inl h) = absurd (f (unused-place B a w h l))
       each w l f (inr h) = used-fits (byte B (i + 1 + w)) (used-place B a w h)
 
@@ -92,24 +107,35 @@ module _ (B : List ℕ) (L : Layout) (room : BookRoom B L) where
     few : constants B ≤ constantsRange .most
     few = sound-header B s .few-constants
 
+    right-fits : {i : ℕ} → AtomRight B i → AtomFits L (atomAt stored B i)
+    right-fits {i} a =
+        atom-fits few (a .used) (true→T _ (relation-in L (byte B i) (omega (arith, a .relation, room .relations-fit))))
+
     all-fit : (i n : ℕ) → ((j : ℕ) → j < n → AtomRight B (i + atomSize * j))
-        → (a : Atom) → a ∈ atomsAt desk B i n → AtomFits L a
-    all-fit i n f = atoms-each desk B (AtomFits L) i n (λ j l. right-fits few (f j l))
+        → (a : Atom) → a ∈ atomsAt stored B i n → AtomFits L a
+    all-fit i n f = atoms-each stored B (AtomFits L) i n (λ j l. right-fits (f j l))
 
-    -- every atom of the question
-    pub question-fits : (a : Atom) → a ∈ bookOf B .question → AtomFits L a
-    question-fits a m =
-        all-fit (questionAt B) (atoms B) (sound-question B s .each) a
-        (subst (λ (A : List Atom). a ∈ A) (book-question B) m)
+    module _ (answers : T (announced B) → T (L .answers)) where
+      -- every atom of the question, and its answer record
+      pub question-fits : (a : Atom) → a ∈ joined (bookOf B .question) → AtomFits L a
+      question-fits a m =
+          atoms-each stored B (AtomFits L) (questionAt B) (answerRecords B + atoms B)
+          (each-standing B (λ i. AtomFits L (atomAt stored B i)) answer-fits
+          (λ j l. right-fits (sound-question B s .each j l)))
+          a (subst (λ (A : List Atom). a ∈ A) (joined-question B s) m)
+        where
+          answer-fits : T (announced B) → AtomFits L (atomAt stored B (questionAt B))
+          answer-fits t =
+              let r = sound-question B s .answer t in
+              atom-fits few (r .used) (is-answer L _ (answers t) (r .relation))
 
-    -- the question as a whole
-    pub question-record : 8 ≤ L .atoms → Fits L (bookOf B .question)
-    question-record h =
-        record {
-          some-atom = question-some B s;
-          most = omega (arith, question-few B s);
-          each = question-fits;
-        }
+      -- the question as a whole
+      pub question-record : atomsRange .most + answerRecords B ≤ L .atoms → Fits L (joined (bookOf B .question))
+      question-record h =
+          record {
+            most = omega (arith, joined-count B s, sound-question B s .few-atoms);
+            each = question-fits;
+          }
 
     -- every atom of every rule
     module _ (r : Rule) (m : r ∈ bookOf B .rules) where
@@ -124,3 +150,29 @@ module _ (B : List ℕ) (L : Layout) (room : BookRoom B L) where
           let k = rule-at B r m in
           all-fit _ _ (sound-rule B s (k .0) (k .1) .head) a
           (subst (λ (A : List Atom). a ∈ A) (ap (λ (x : Rule). x .head) (k .2) ∙ rule-head B (ruleStart B (k .0))) n)
+
+-- no atom of a rule is an answer record
+pub rules-free : (B : List ℕ) → SoundBook B → (r : Rule) → r ∈ bookOf B .rules → NoRecord (r .body) × NoRecord (r .head)
+rules-free B s r m = subst (λ (x : Rule). NoRecord (x .body) × NoRecord (x .head)) (sym (k .2)) (body, head)
+  where
+    k : (k : ℕ) × (k < rules B) × (r ≡ ruleAt B (ruleStart B k))
+    k = rule-at B r m
+
+    all-free : (i n : ℕ) → ((j : ℕ) → j < n → AtomRight B (i + atomSize * j)) → NoRecord (atomsAt stored B i n)
+    all-free i n f =
+        atoms-each stored B (λ (x : Atom). ¬ (x .rel ≡ answerRelation)) i n
+        (λ j l. right-free B (sound-header B s .few-relations) _ (f j l))
+
+    body : NoRecord (ruleAt B (ruleStart B (k .0)) .body)
+    body = rw (rule-body B (ruleStart B (k .0))) (all-free _ _ (sound-rule B s (k .0) (k .1) .body))
+
+    head : NoRecord (ruleAt B (ruleStart B (k .0)) .head)
+    head = rw (rule-head B (ruleStart B (k .0))) (all-free _ _ (sound-rule B s (k .0) (k .1) .head))
+
+-- the question fits the book's own layout, and the one in which all bytes are kept
+module _ (B : List ℕ) (s : SoundBook B) where
+  pub question-own : Fits (layoutOf B) (joined (bookOf B .question))
+  question-own = question-record B (layoutOf B) (own-room B) s (λ t. t) (omega arith)
+
+  pub question-stored : Fits stored (joined (bookOf B .question))
+  question-stored = question-record B stored (stored-room B s) s (λ t. tt) (omega (arith, records-few B))

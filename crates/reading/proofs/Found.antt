@@ -14,32 +14,18 @@ use Rattle.reading.specs.Refusals.{placeAllowed, AtomWrong, relation, pl
 use Rattle.reading.specs.Verdict.{wrongPlaces, ruleRight, wrongRule, wrongPlace, wrongInAtom, wrongInAtoms}
 use Rattle.reading.specs.Verdict.{wrongInRules}
 use Rattle.reading.proofs.Earliest.{Earliest, nowhere, first, earliest-same, earliest-test, earliest-else}
-use Rattle.reading.proofs.Earliest.{here-or-later}
+use Rattle.reading.proofs.Earliest.{here-or-later, Failing, earliest-each}
 use Rattle.reading.proofs.After.{after-late}
 
 module _ (B : List ℕ) where
   -- 5: a byte among n from i on
   abbrev pub PlacesFrom : ℕ → ℕ → ℕ → Type 0
-  PlacesFrom i n p = (i ≤ p) × (p < i + n) × (T (inside placesRange (byte B p)) → ⊥)
+  PlacesFrom = Failing (λ p. inside placesRange (byte B p))
 
   pub places-earliest : (i n : ℕ) → Earliest (PlacesFrom i n) (wrongPlaces B i n)
   unfolding wrongPlaces
-  places-earliest i zero = nowhere (λ p w. omega arith)
-  places-earliest i (suc n) =
-      earliest-same join (λ p w. part p w (here-or-later i p (w .0)))
-      (earliest-else (earliest-test right i) (places-earliest (i + 1) n) (λ p q v w. omega arith))
-    where
-      right : ℕ → Bool
-      right p = inside placesRange (byte B p)
-
-      join : (p : ℕ) → ((p ≡ i) × (T (right p) → ⊥)) ⊎ PlacesFrom (i + 1) n p → PlacesFrom i (suc n) p
-      join p (inl v) = (omega arith, omega arith, v .1)
-      join p (inr w) = (omega arith, omega arith, w .2)
-
-      part : (p : ℕ) → PlacesFrom i (suc n) p → (p ≡ i) ⊎ (i + 1 ≤ p)
-          → ((p ≡ i) × (T (right p) → ⊥)) ⊎ PlacesFrom (i + 1) n p
-      part p w (inl e) = inl (e, w .2)
-      part p w (inr l) = inr (l, omega arith, w .2)
+  places-earliest =
+      earliest-each (λ p. inside placesRange (byte B p)) (wrongPlaces B) (λ i. refl) (λ i n. refl)
 
   -- 6: a rule among n from s on, or their end
   abbrev pub RulesFrom : ℕ → ℕ → ℕ → ℕ → Type 0
@@ -77,11 +63,11 @@ module _ (B : List ℕ) where
       part p (inr w) = inr (inr w)
 
   -- 7: one of n places, from place w on
-  abbrev PlaceFrom : ℕ → ℕ → ℕ → ℕ → ℕ → Type 0
+  abbrev pub PlaceFrom : ℕ → ℕ → ℕ → ℕ → ℕ → Type 0
   PlaceFrom u i w n p =
       (v : ℕ) × (w ≤ v) × (v < w + n) × (p ≡ i + v) × (T (placeAllowed (constants B) (ltb v u) (byte B p)) → ⊥)
 
-  place-earliest : (u i w n : ℕ) → Earliest (PlaceFrom u i w n) (wrongPlace B u i w n)
+  pub place-earliest : (u i w n : ℕ) → Earliest (PlaceFrom u i w n) (wrongPlace B u i w n)
   unfolding wrongPlace
   place-earliest u i w zero = nowhere (λ p r. let l = r .1 in let m = r .2 in omega arith)
   place-earliest u i w (suc n) =

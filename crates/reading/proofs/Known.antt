@@ -1,15 +1,20 @@
 -- What follows for the numbers of a header that refusals 3 and 4 do not hit. Assumes nothing.
-use mathlib.Core.Path.{_≡_}
+use mathlib.Core.Path.{_≡_, ap}
+use mathlib.Core.Bool.{true, false, cond}
+use mathlib.Core.Logic.{_⊎_, inl, inr}
 use mathlib.Core.List.{List}
 use Prim.Native.Nat.{ℕ, _+_, _*_, _≤_}
 use native.Mathlib.Omega.{arith}
-use lib.Dec.{T}
+use borrow.Author.Tests.{eqb-true, eqb-false}
+use lib.Dec.{T, eqb}
 use lib.ListN.{length}
+use Rattle.covering.proofs.Tests.{either}
 use Rattle.reading.specs.declared.Header.{Header}
-use Rattle.reading.specs.Header.{headerSize, headerOf, atomSize}
+use Rattle.reading.specs.Header.{headerSize, atoms, questionAt, totalWord, headerOf, atomSize, endWith}
+use Rattle.reading.specs.Header.{announced, answerRecords}
 use Rattle.reading.specs.Header.{relationsRange, constantsRange, rulesRange, atomsRange, allowedRange}
 use Rattle.reading.specs.Verdict.{inTable, offsetsRight}
-use Rattle.reading.proofs.Conditions.{in-table, offsets-right}
+use Rattle.reading.proofs.Conditions.{OneTotal, in-table, offsets-right}
 use Rattle.reading.proofs.Ranges.{inside-in}
 
 pub record HeaderKnown (B : List ℕ) (h : Header) : Type 0 where
@@ -23,7 +28,18 @@ pub record HeaderKnown (B : List ℕ) (h : Header) : Type 0 where
   pub few-allowed : h .allowed ≤ allowedRange .most
   pub start-is : h .start ≡ headerSize + h .relations
   pub start-fits : headerSize + h .relations ≤ h .question
-  pub ends : h .question + atomSize * h .atoms ≡ length B
+  pub ends : h .question + atomSize * (answerRecords B + h .atoms) ≡ length B
+
+-- the question ends with its atoms, and its answer record is counted where the total announces it
+total-is : (B : List ℕ) → OneTotal B → totalWord B ≡ questionAt B + atomSize * (answerRecords B + atoms B)
+unfolding announced
+total-is B o = go (either (announced B)) o
+  where
+    go : (announced B ≡ true) ⊎ (announced B ≡ false) → OneTotal B
+        → totalWord B ≡ questionAt B + atomSize * (answerRecords B + atoms B)
+    go (inl t) _ = rw t (omega (arith, eqb-true (totalWord B) (endWith (questionAt B) (atoms B)) t))
+    go (inr f) (inl e) = rw f (omega arith)
+    go (inr f) (inr e) = absurd (eqb-false (totalWord B) _ f e)
 
 pub header-known : (B : List ℕ) → T (inTable (headerOf B)) → T (offsetsRight (headerOf B) (length B))
     → HeaderKnown B (headerOf B)
@@ -41,5 +57,11 @@ header-known B table offsets =
       few-allowed = inside-in allowedRange (t .allowed-in) .1;
       start-is = o .rules-at;
       start-fits = omega (arith, o .rules-at, o .question-at);
-      ends = omega (arith, o .total-is, o .length-is);
+      ends = omega (arith, total-is B (o .total-is), o .length-is);
     }
+
+-- how many answer records the header of a book tells of
+pub records-told : (B : List ℕ) (h : Header) → h ≡ headerOf B
+    → cond (eqb (h .total) (endWith (h .question) (h .atoms))) 1 0 ≡ answerRecords B
+unfolding announced
+records-told B h e = ap (λ (x : Header). cond (eqb (x .total) (endWith (x .question) (x .atoms))) 1 0) e

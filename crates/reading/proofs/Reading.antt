@@ -1,18 +1,19 @@
 -- What a book is read as (`bookOf`), part by part: laws for the layers above. Assumes nothing.
 use mathlib.Core.Path.{_≡_, refl, sym, _∙_, ap}
+use mathlib.Core.Bool.{cond}
 use mathlib.Core.List.{List, [], _∷_, List·Memᴰ·head, List·Memᴰ·tail, List·Memᴰ·not-nil, List·Memᴰ·cases-cons}
 use mathlib.Core.Logic.{_⊎_, inl, inr}
 use Prim.Native.Nat.{ℕ, zero, suc, _+_, _*_, _-_, _≤_, _<_}
 use native.Mathlib.Nat.{sub-zero, sub-eq-zero-of-le}
 use native.Mathlib.Omega.{arith}
-use lib.ListN.{drop}
+use lib.ListN.{drop, take}
 use Rattle.covering.specs.Lists.{_∈_}
-use Rattle.covering.specs.Record.{desk, atomsAt}
+use Rattle.covering.specs.Record.{stored, argsAt, atomsAt}
 use Rattle.covering.specs.Rule.{Rule}
 use Rattle.reading.specs.Word.{byte, word}
-use Rattle.reading.specs.Header.{rules, atoms, allowed, questionAt}
+use Rattle.reading.specs.Header.{rules, allowed, questionAt, atomPlaces, announced, relations, headerSize}
 use Rattle.reading.specs.Book.{bodyCount, headCount, bodyAt, headAt, ruleEnd, ruleAt, rulesFrom, after}
-use Rattle.reading.specs.Book.{rulesStart, ruleStart, bookOf}
+use Rattle.reading.specs.Book.{rulesStart, ruleStart, questionAtoms, questionIn, bookOf}
 use Rattle.reading.proofs.After.{after-next}
 use Rattle.covering.proofs.Tests.{one-more}
 
@@ -27,9 +28,21 @@ module _ (B : List ℕ) where
   unfolding bookOf
   book-rules = refl
 
-  pub book-question : bookOf B .question ≡ atomsAt desk B (questionAt B) (atoms B)
+  pub book-question : bookOf B .question ≡ questionIn B
   unfolding bookOf
   book-question = refl
+
+  pub book-answer : bookOf B .question .answer ≡ cond (announced B) (argsAt B (questionAt B + 1) atomPlaces) []
+  unfolding bookOf questionIn
+  book-answer = refl
+
+  pub book-atoms : bookOf B .question .atoms ≡ questionAtoms B
+  unfolding bookOf questionIn
+  book-atoms = refl
+
+  pub book-places : bookOf B .places ≡ take (relations B) (drop headerSize B)
+  unfolding bookOf
+  book-places = refl
 
   pub book-allowed : bookOf B .allowed ≡ allowed B
   unfolding bookOf
@@ -38,15 +51,18 @@ module _ (B : List ℕ) where
   -- a rule's body and head, and where they stand
   pub rule-is : (s : ℕ)
       → ruleAt B s
-      ≡ record { body = atomsAt desk B (bodyAt B s) (bodyCount B s); head = atomsAt desk B (headAt B s) (headCount B s) }
+      ≡ record {
+        body = atomsAt stored B (bodyAt B s) (bodyCount B s);
+        head = atomsAt stored B (headAt B s) (headCount B s);
+      }
   unfolding ruleAt
   rule-is s = refl
 
-  pub rule-body : (s : ℕ) → ruleAt B s .body ≡ atomsAt desk B (bodyAt B s) (bodyCount B s)
+  pub rule-body : (s : ℕ) → ruleAt B s .body ≡ atomsAt stored B (bodyAt B s) (bodyCount B s)
   unfolding ruleAt
   rule-body s = refl
 
-  pub rule-head : (s : ℕ) → ruleAt B s .head ≡ atomsAt desk B (headAt B s) (headCount B s)
+  pub rule-head : (s : ℕ) → ruleAt B s .head ≡ atomsAt stored B (headAt B s) (headCount B s)
   unfolding ruleAt
   rule-head s = refl
 

@@ -10,23 +10,23 @@ use lib.Dec.{T, ltb, leb, eqb→eq, ltb→lt, leb→le}
 use borrow.Author.Tests.{lt-ltb, le-ltb}
 use lib.ListN.{length}
 use Rattle.covering.specs.Lists.{orElse}
-use Rattle.covering.specs.Record.{Layout, desk, size, atomAt, isTerm, isAtom, areAtoms}
-use Rattle.covering.proofs.Tests.{decide, clash, or-cases, fst-of, snd-of, none≢some, le-or-lt}
+use Rattle.covering.specs.Record.{Layout, stored, size, atomAt, isTerm, isRelation, isAtom, areAtoms}
+use Rattle.covering.proofs.Tests.{decide, clash, or-cases, fst-of, snd-of, none≢some, le-or-lt, true→T}
 use Rattle.covering.proofs.Places.{is-variable, is-constant, is-atom, are-atoms, atom-args}
+use Rattle.covering.proofs.Bytes.{relation-in}
 use Rattle.reading.specs.declared.Refusal.{Refusal}
 use Rattle.reading.specs.Word.{byte}
-use Rattle.reading.specs.Header.{headerSize, relations, constants, rules, atoms, questionAt, headerOf, atomSize}
-use Rattle.reading.specs.Header.{inside, constantsRange, atomsRange, placesRange, bodyRange, headRange}
+use Rattle.reading.specs.Header.{headerSize, relations, constants, rules, questionAt, headerOf, atomSize}
+use Rattle.reading.specs.Header.{inside, constantsRange, placesRange, bodyRange, headRange}
 use Rattle.reading.specs.Header.{atomPlaces, variables}
 use Rattle.reading.specs.Book.{bodyCount, headCount, bodyAt, headAt, ruleEnd, rulesStart, ruleStart, placesOf}
 use Rattle.reading.specs.Book.{layoutOf}
 use Rattle.reading.specs.Refusals.{usedAllowed, placeAllowed, AtomWrong, relation, place, ApplicableToBook}
 use Rattle.reading.specs.Verdict.{IsVerdict, sound, refused, unless, inTable, offsetsRight, wrongPlaces}
-use Rattle.reading.specs.Verdict.{wrongRule, wrongInAtoms, wrongInRules, wrongByte, refuse, contents, verdict}
-use Rattle.reading.specs.Verdict.{SoundBook}
+use Rattle.reading.specs.Verdict.{wrongRule, wrongInRules, wrongInQuestion, wrongByte, looseVariable, refuse}
+use Rattle.reading.specs.Verdict.{contents, verdict, SoundBook}
 use Rattle.reading.proofs.Earliest.{Earliest, holds-nowhere}
-use Rattle.reading.proofs.Found.{PlacesFrom, places-earliest, AtomsFrom, atoms-earliest, RuleBytes}
-use Rattle.reading.proofs.Found.{bytes-earliest}
+use Rattle.reading.proofs.Found.{PlacesFrom, places-earliest, RuleBytes, bytes-earliest}
 use Rattle.reading.proofs.Conditions.{rule-right, rules-right, unless-none}
 use Rattle.reading.proofs.Ranges.{inside-in}
 use Rattle.reading.proofs.Exact.{number-from, rules-end-at, verdict-exact}
@@ -50,16 +50,17 @@ else-none : (a b : Option ℕ) → orElse a b ≡ none → (a ≡ none) × (b �
 else-none none b e = (refl, e)
 else-none (some p) b e = absurd (none≢some (sym e))
 
-record Passed (B : List ℕ) : Type 0 where
+pub record Passed (B : List ℕ) : Type 0 where
   long : T (leb headerSize (length B))
   table : T (inTable (headerOf B))
   offsets : T (offsetsRight (headerOf B) (length B))
   places : wrongPlaces B headerSize (relations B) ≡ none
   rules-are : wrongRule B (questionAt B) (rulesStart B) (rules B) ≡ none
   in-rules : wrongInRules B (rulesStart B) (rules B) ≡ none
-  in-question : wrongInAtoms B (questionAt B) (atoms B) ≡ none
+  pub in-question : wrongInQuestion B ≡ none
+  pub none-loose : looseVariable B ≡ none
 
-passed : (B : List ℕ) → SoundBook B → Passed B
+pub passed : (B : List ℕ) → SoundBook B → Passed B
 unfolding verdict contents wrongByte
 passed B s =
     let r₂ = refuse-zero 2 (unless (leb headerSize (length B)) 0) _ (omega arith) s in
@@ -68,7 +69,8 @@ passed B s =
     let r₅ = refuse-zero 5 (wrongPlaces B headerSize (relations B)) _ (omega arith) (r₄ .1) in
     let r₆ = refuse-zero 6 (wrongRule B (questionAt B) (rulesStart B) (rules B)) _ (omega arith) (r₅ .1) in
     let r₇ = refuse-zero 7 (wrongByte B) _ (omega arith) (r₆ .1) in
-    let b = else-none (wrongInRules B (rulesStart B) (rules B)) (wrongInAtoms B (questionAt B) (atoms B)) (r₇ .0) in
+    let r₁₁ = refuse-zero 11 (looseVariable B) _ (omega arith) (r₇ .1) in
+    let b = else-none (wrongInRules B (rulesStart B) (rules B)) (wrongInQuestion B) (r₇ .0) in
     record {
       long = unless-none (leb headerSize (length B)) 0 (r₂ .0);
       table = unless-none (inTable (headerOf B)) 0 (r₃ .0);
@@ -77,6 +79,7 @@ passed B s =
       rules-are = r₆ .0;
       in-rules = b .0;
       in-question = b .1;
+      none-loose = r₁₁ .0;
     }
 
 -- a layout that has room for the book's atoms: the book's own has, and the desk's
@@ -86,30 +89,25 @@ pub record BookRoom (B : List ℕ) (L : Layout) : Type 0 where
   pub variables-fit : variables ≤ L .variables
   pub constants-fit : constants B ≤ L .constants
 
+-- the places after the byte i, u of them used, none of them wrong
+pub record UsedRight (B : List ℕ) (i u : ℕ) : Type 0 where
+  pub some-place : 1 ≤ u
+  pub few-places : u ≤ atomPlaces
+  pub places : (w : ℕ) → w < atomPlaces → T (placeAllowed (constants B) (ltb w u) (byte B (i + 1 + w)))
+
 -- an atom at i with no wrong byte
 pub record AtomRight (B : List ℕ) (i : ℕ) : Type 0 where
   pub relation : byte B i < relations B
-  pub some-place : 1 ≤ placesOf B (byte B i)
-  pub few-places : placesOf B (byte B i) ≤ atomPlaces
-  pub places : (w : ℕ) → w < atomPlaces
-      → T (placeAllowed (constants B) (ltb w (placesOf B (byte B i))) (byte B (i + 1 + w)))
+  pub used : UsedRight B i (placesOf B (byte B i))
 
 -- a rule at s of a sound book
 pub record SoundRule (B : List ℕ) (s : ℕ) : Type 0 where
-  pub some-body : bodyRange .least ≤ bodyCount B s
   pub few-body : bodyCount B s ≤ bodyRange .most
   pub some-head : headRange .least ≤ headCount B s
   pub few-head : headCount B s ≤ headRange .most
   pub ends : ruleEnd B s ≤ questionAt B
   pub body : (j : ℕ) → j < bodyCount B s → AtomRight B (bodyAt B s + atomSize * j)
   pub head : (j : ℕ) → j < headCount B s → AtomRight B (headAt B s + atomSize * j)
-
--- its question
-pub record SoundQuestion (B : List ℕ) : Type 0 where
-  pub some-atom : 1 ≤ atoms B
-  pub few-atoms : atoms B ≤ atomsRange .most
-  pub ends : questionAt B + atomSize * atoms B ≡ length B
-  pub each : (j : ℕ) → j < atoms B → AtomRight B (questionAt B + atomSize * j)
 
 module _ (B : List ℕ) where
   pub own-room : BookRoom B (layoutOf B)
@@ -134,31 +132,27 @@ module _ (B : List ℕ) where
           is-constant L b l (omega (arith, r .constants-fit))
 
   -- a used place, an unused place
-  module _ {i : ℕ} (a : AtomRight B i) where
-    pub used-place : (w : ℕ) → w < placesOf B (byte B i) → T (usedAllowed (constants B) (byte B (i + 1 + w)))
+  module _ {i u : ℕ} (a : UsedRight B i u) where
+    pub used-place : (w : ℕ) → w < u → T (usedAllowed (constants B) (byte B (i + 1 + w)))
     used-place w l =
-        subst (λ (u : Bool). T (placeAllowed (constants B) u (byte B (i + 1 + w))))
-        (lt-ltb w (placesOf B (byte B i)) l)
+        subst (λ (x : Bool). T (placeAllowed (constants B) x (byte B (i + 1 + w)))) (lt-ltb w u l)
         (a .places w (omega (arith, a .few-places)))
 
-    pub unused-place : (w : ℕ) → placesOf B (byte B i) ≤ w → w < atomPlaces → byte B (i + 1 + w) ≡ 255
+    pub unused-place : (w : ℕ) → u ≤ w → w < atomPlaces → byte B (i + 1 + w) ≡ 255
     unused-place w l m =
         eqb→eq (byte B (i + 1 + w)) 255
-        (subst (λ (u : Bool). T (placeAllowed (constants B) u (byte B (i + 1 + w))))
-        (le-ltb w (placesOf B (byte B i)) l)
-        (a .places w m))
+        (subst (λ (x : Bool). T (placeAllowed (constants B) x (byte B (i + 1 + w)))) (le-ltb w u l) (a .places w m))
 
-    pub right-atom : (L : Layout) → BookRoom B L → T (isAtom L B i)
-    right-atom L r =
-        is-atom L B i (placesOf B (byte B i)) (omega (arith, a .relation, r .relations-fit)) (a .some-place)
-        (omega (arith, a .few-places, r .places-are)) (λ w l. used-term L r _ (used-place w l))
-        (λ w l m. unused-place w l (omega (arith, r .places-are)))
+    -- with a relation before them they are an atom
+    pub used-atom : (L : Layout) → BookRoom B L → T (isRelation L (byte B i)) → T (isAtom L B i)
+    used-atom L r t =
+        is-atom L B i u t (a .some-place) (omega (arith, a .few-places, r .places-are))
+        (λ w l. used-term L r _ (used-place w l)) (λ w l m. unused-place w l (omega (arith, r .places-are)))
 
-    -- an atom has as many terms as its relation has places
-    pub right-places : constants B ≤ constantsRange .most → length (atomAt desk B i .args) ≡ placesOf B (byte B i)
-    right-places c =
-        atom-args desk B i (placesOf B (byte B i)) (a .few-places)
-        (λ w l e. not-last (byte B (i + 1 + w)) (used-place w l) e) unused-place
+    -- an atom has as many terms as it has places used
+    pub used-places : constants B ≤ constantsRange .most → length (atomAt stored B i .args) ≡ u
+    used-places c =
+        atom-args stored B i u (a .few-places) (λ w l e. not-last (byte B (i + 1 + w)) (used-place w l) e) unused-place
       where
         not-last : (b : ℕ) → T (usedAllowed (constants B) b) → b ≡ 255 → ⊥
         not-last b t e = go (or-cases (ltb b variables) (leb 128 b && ltb b (128 + constants B)) t)
@@ -168,6 +162,16 @@ module _ (B : List ℕ) where
             go (inr h) =
                 let m : b < 128 + constants B = ltb→lt _ _ (snd-of (leb 128 b) (ltb b (128 + constants B)) h) in
                 omega arith
+
+  pub right-atom : {i : ℕ} → AtomRight B i → (L : Layout) → BookRoom B L → T (isAtom L B i)
+  right-atom {i} a L r =
+      used-atom (a .used) L r
+      (true→T _ (relation-in L (byte B i) (omega (arith, a .relation, r .relations-fit))))
+
+  -- it has as many terms as its relation has places
+  pub right-places : {i : ℕ} → AtomRight B i → constants B ≤ constantsRange .most
+      → length (atomAt stored B i .args) ≡ placesOf B (byte B i)
+  right-places a c = used-places (a .used) c
 
   -- n atoms from i on, each of them right
   pub right-atoms : (L : Layout) → BookRoom B L → (i n : ℕ) → ((j : ℕ) → j < n → AtomRight B (i + atomSize * j))
@@ -188,8 +192,8 @@ module _ (B : List ℕ) where
     pub sound-long : headerSize ≤ length B
     sound-long = leb→le _ _ (passed B s .long)
 
-    pub desk-room : BookRoom B desk
-    desk-room =
+    pub stored-room : BookRoom B stored
+    stored-room =
         let k = sound-header in
         record {
           relations-fit = k .few-relations;
@@ -216,15 +220,14 @@ module _ (B : List ℕ) where
             (none-wrong (headerSize + r)
             (omega arith, omega arith, λ u. clash (inside placesRange (placesOf B r)) u t))
 
-    not-wrong : (i : ℕ) → ((p : ℕ) → AtomWrong B i p → ⊥) → AtomRight B i
+    pub not-wrong : (i : ℕ) → ((p : ℕ) → AtomWrong B i p → ⊥) → AtomRight B i
     not-wrong i f =
         let l = below (le-or-lt (relations B) (byte B i)) in
         let u = sound-places (byte B i) l in
         record {
           relation = l;
-          some-place = u .0;
-          few-places = u .1;
-          places = λ w m. allowed l w m (decide (ok w));
+          used =
+              record { some-place = u .0; few-places = u .1; places = λ w m. allowed l w m (decide (ok w)) };
         }
       where
         below : (relations B ≤ byte B i) ⊎ (byte B i < relations B) → byte B i < relations B
@@ -246,7 +249,6 @@ module _ (B : List ℕ) where
     sound-rule k l =
         let r = rule-right B (questionAt B) start (rules-right B _ _ _ (passed B s .rules-are) k l) in
         record {
-          some-body = inside-in bodyRange (r .body-in) .0;
           few-body = inside-in bodyRange (r .body-in) .1;
           some-head = inside-in headRange (r .head-in) .0;
           few-head = inside-in headRange (r .head-in) .1;
@@ -268,23 +270,7 @@ module _ (B : List ℕ) where
             → AtomWrong B (bodyAt B start + atomSize * (bodyCount B start + j)) p
         moved p j w = subst (λ (i : ℕ). AtomWrong B i p) (omega arith) w
 
-    pub sound-question : SoundQuestion B
-    sound-question =
-        let k = sound-header in
-        record {
-          some-atom = k .some-atom;
-          few-atoms = k .few-atoms;
-          ends = k .ends;
-          each = λ j l. not-wrong _ (λ p w. none-wrong p (j, l, w));
-        }
-      where
-        none-wrong : (p : ℕ) → AtomsFrom B (questionAt B) (atoms B) p → ⊥
-        none-wrong =
-            holds-nowhere
-            (subst (Earliest (AtomsFrom B (questionAt B) (atoms B))) (passed B s .in-question)
-            (atoms-earliest B (questionAt B) (atoms B)))
-
-    -- the atoms of rules and question in the form of `cover`'s records, for the desk's layout as for the book's own
+    -- the atoms of rules in the form of `cover`'s records, for every layout that has room for them
     module _ (L : Layout) (room : BookRoom B L) where
       pub sound-body : (k : ℕ) → k < rules B
           → T (areAtoms L B (bodyAt B (ruleStart B k)) (bodyCount B (ruleStart B k)))
@@ -293,6 +279,3 @@ module _ (B : List ℕ) where
       pub sound-head : (k : ℕ) → k < rules B
           → T (areAtoms L B (headAt B (ruleStart B k)) (headCount B (ruleStart B k)))
       sound-head k l = right-atoms L room _ _ (sound-rule k l .head)
-
-      pub sound-atoms : T (areAtoms L B (questionAt B) (atoms B))
-      sound-atoms = right-atoms L room _ _ (sound-question .each)

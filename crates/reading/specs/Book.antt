@@ -1,21 +1,24 @@
 -- What a stored book says (01, "Stored book"): the decoding has a value for every list of bytes. When it is to be
 -- believed is the matter of `Refusals` and `Verdict`.
+use mathlib.Core.Bool.{cond}
 use mathlib.Core.List.{List, [], _∷_}
 use Prim.Native.Nat.{ℕ, zero, suc, _+_, _*_}
 use lib.ListN.{take, drop}
 use Rattle.covering.specs.Term.{Question}
-use Rattle.covering.specs.Record.{Layout, desk, atomsAt}
+use Rattle.covering.specs.Asking.{Asking}
+use Rattle.covering.specs.Record.{Layout, stored, argsAt, atomsAt}
 use Rattle.covering.specs.Rule.{Rule}
 use Rattle.reading.specs.Word.{byte}
 use Rattle.reading.specs.Header.{headerSize, relations, constants, rules, atoms, allowed, questionAt, atomSize}
-use Rattle.reading.specs.Header.{atomsRange, atomPlaces, variables}
+use Rattle.reading.specs.Header.{atomsRange, atomPlaces, variables, announced, answerRecords, questionAtomsAt}
 
 pub record Book : Type 0 where
   -- the number of places of each relation
   pub places : List ℕ
   pub constants : ℕ
   pub rules : List Rule
-  pub question : Question
+  -- with its answer places, if it has any
+  pub question : Asking
   pub allowed : ℕ
 
 -- "A rule: two bytes, the body's and the head's atom counts, .., then body atoms, then head atoms."
@@ -37,7 +40,10 @@ ruleEnd B s = s + 2 + atomSize * (bodyCount B s + headCount B s)
 
 unfoldable pub ruleAt : List ℕ → ℕ → Rule
 ruleAt B s =
-    record { body = atomsAt desk B (bodyAt B s) (bodyCount B s); head = atomsAt desk B (headAt B s) (headCount B s) }
+    record {
+      body = atomsAt stored B (bodyAt B s) (bodyCount B s);
+      head = atomsAt stored B (headAt B s) (headCount B s);
+    }
 
 -- n rules, one after the other, from s on: the rules, and where they end
 unfoldable pub rulesFrom : List ℕ → ℕ → ℕ → List Rule
@@ -60,22 +66,34 @@ ruleStart B k = after B (rulesStart B) k
 abbrev pub placesOf : List ℕ → ℕ → ℕ
 placesOf B r = byte B (headerSize + r)
 
+-- the question's atoms, "used places first" of the record before them, if there is one
+abbrev pub questionAtoms : List ℕ → Question
+questionAtoms B = atomsAt stored B (questionAtomsAt B) (atoms B)
+
+unfoldable pub questionIn : List ℕ → Asking
+questionIn B =
+    record {
+      answer = cond (announced B) (argsAt B (questionAt B + 1) atomPlaces) [];
+      atoms = questionAtoms B;
+    }
+
 unfoldable pub bookOf : List ℕ → Book
 bookOf B =
     record {
       places = take (relations B) (drop headerSize B);
       constants = constants B;
       rules = rulesFrom B (rulesStart B) (rules B);
-      question = atomsAt desk B (questionAt B) (atoms B);
+      question = questionIn B;
       allowed = allowed B;
     }
 
--- what the atoms of this book keep to
+-- what the atoms of this book keep to, its answer record among them
 abbrev pub layoutOf : List ℕ → Layout
 layoutOf B =
     record {
-      atoms = atomsRange .most;
+      atoms = atomsRange .most + answerRecords B;
       relations = relations B;
+      answers = announced B;
       places = atomPlaces;
       variables = variables;
       constants = constants B;

@@ -1,11 +1,11 @@
 -- The header, the limits of its fields and the sizes of what follows it (01, "Stored book").
 use mathlib.Core.Path.{_≡_}
-use mathlib.Core.Bool.{Bool, _&&_}
+use mathlib.Core.Bool.{Bool, cond, _&&_}
 use mathlib.Core.Logic.{_⊎_}
 use mathlib.Core.List.{List}
-use Prim.Native.Nat.{ℕ, _<_}
-use lib.Dec.{leb}
-use Rattle.covering.specs.Record.{desk, size}
+use Prim.Native.Nat.{ℕ, _+_, _*_, _<_}
+use lib.Dec.{eqb, leb}
+use Rattle.covering.specs.Record.{stored, size}
 use Rattle.reading.specs.declared.Header.{Header}
 use Rattle.reading.specs.Word.{word}
 
@@ -89,9 +89,10 @@ allowedRange = record { least = 1; most = 1000 }
 abbrev pub placesRange : Range
 placesRange = record { least = 1; most = 4 }
 
--- "two bytes, the body's and the head's atom counts, each 1 to 4"
+-- "two bytes, the body's and the head's atom counts, each 1 to 4"; "a fact is a rule with an empty body, so 01's
+-- definition is mended: body counts run 0 to 4" (02, c)
 abbrev pub bodyRange : Range
-bodyRange = record { least = 1; most = 4 }
+bodyRange = record { least = 0; most = 4 }
 
 abbrev pub headRange : Range
 headRange = record { least = 1; most = 4 }
@@ -108,11 +109,29 @@ Outside r n = (n < r .least) ⊎ (r .most < n)
 
 -- "An atom is five bytes: relation number below P, then four places." The width is that of the member record.
 abbrev pub atomSize : ℕ
-atomSize = size desk
+atomSize = size stored
 
 abbrev pub atomPlaces : ℕ
-atomPlaces = desk .places
+atomPlaces = stored .places
 
 -- "0 to 31 for a variable"
 abbrev pub variables : ℕ
 variables = 32
+
+-- With answer places (02, a): "N doesn't count it; a total five larger announces it." Where the question ends without
+-- an answer record, and with one; whether there is one, and how many.
+abbrev pub endWithout : ℕ → ℕ → ℕ
+endWithout question atoms = question + atomSize * atoms
+
+abbrev pub endWith : ℕ → ℕ → ℕ
+endWith question atoms = question + atomSize * (atoms + 1)
+
+unfoldable pub announced : List ℕ → Bool
+announced B = eqb (totalWord B) (endWith (questionAt B) (atoms B))
+
+abbrev pub answerRecords : List ℕ → ℕ
+answerRecords B = cond (announced B) 1 0
+
+-- "before the question's atoms": where these start
+abbrev pub questionAtomsAt : List ℕ → ℕ
+questionAtomsAt B = questionAt B + atomSize * answerRecords B

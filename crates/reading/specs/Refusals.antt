@@ -1,17 +1,20 @@
--- When a book is refused (01, "Refusal numbers"): for each of the numbers 2 to 7 what "number n applies at place p"
--- says, in the table's words. A place is an offset from the book's first byte.
+-- When a book is refused (01, "Refusal numbers"; 02, a): for each of the numbers 2 to 7 and 11 what "number n applies
+-- at place p" says, in the table's words. A place is an offset from the book's first byte.
 use mathlib.Core.Path.{_≡_}
 use mathlib.Core.Bool.{Bool, cond, _&&_, _||_}
 use mathlib.Core.List.{List}
-use Prim.Native.Nat.{ℕ, _+_, _*_, _<_, _≤_}
+use Prim.Native.Nat.{ℕ, zero, suc, _+_, _*_, _-_, _<_, _≤_}
 use lib.Dec.{T, eqb, ltb, leb}
 use lib.ListN.{length}
+use Rattle.covering.specs.Lists.{_∈_}
+use Rattle.covering.specs.Term.{var, terms}
+use Rattle.covering.specs.Asking.{answerRelation}
 use Rattle.reading.specs.Word.{byte}
 use Rattle.reading.specs.Header.{headerSize, relations, constants, rules, atoms, allowed, relationsAt, rulesAt}
 use Rattle.reading.specs.Header.{questionAt, Outside, relationsRange, constantsRange, rulesRange, totalWord}
 use Rattle.reading.specs.Header.{atomsRange, allowedRange, placesRange, bodyRange, headRange, atomSize}
-use Rattle.reading.specs.Header.{atomPlaces, variables}
-use Rattle.reading.specs.Book.{bodyCount, headCount, bodyAt, headAt, ruleEnd, ruleStart, placesOf}
+use Rattle.reading.specs.Header.{atomPlaces, variables, endWithout, endWith, announced, questionAtomsAt}
+use Rattle.reading.specs.Book.{bodyCount, headCount, bodyAt, headAt, ruleEnd, ruleStart, placesOf, questionAtoms}
 
 -- 2: "book under 18 bytes"
 abbrev pub Short : List ℕ → Type 0
@@ -26,12 +29,14 @@ pub data OutsideTable (B : List ℕ) : Type 0 where
   allowed-out : Outside allowedRange (allowed B) → OutsideTable B
 
 -- 4: "relations' offset not 18; rules' offset not 18 + P; question's offset below the rules'; total not question's
--- offset + 5N; total not the book's length". The sums are of natural numbers, not cut to 16 bits.
+-- offset + 5N; total not the book's length". "A total five larger announces" an answer record, so the fourth part is
+-- that the total is neither. The sums are of natural numbers, not cut to 16 bits.
 pub data OffsetWrong (B : List ℕ) : Type 0 where
   relations-not : (relationsAt B ≡ headerSize → ⊥) → OffsetWrong B
   rules-not : (rulesAt B ≡ headerSize + relations B → ⊥) → OffsetWrong B
   question-below : questionAt B < rulesAt B → OffsetWrong B
-  total-not : (totalWord B ≡ questionAt B + atomSize * atoms B → ⊥) → OffsetWrong B
+  total-not : (totalWord B ≡ endWithout (questionAt B) (atoms B) → ⊥)
+      → (totalWord B ≡ endWith (questionAt B) (atoms B) → ⊥) → OffsetWrong B
   length-not : (totalWord B ≡ length B → ⊥) → OffsetWrong B
 
 -- 5: "a relation's places not 1 to 4", at "that byte"
@@ -56,7 +61,7 @@ pub data AtomOf (B : List ℕ) (i : ℕ) : Type 0 where
       → i ≡ bodyAt B (ruleStart B k) + atomSize * j → AtomOf B i
   in-head : (k j : ℕ) → k < rules B → j < headCount B (ruleStart B k)
       → i ≡ headAt B (ruleStart B k) + atomSize * j → AtomOf B i
-  in-question : (j : ℕ) → j < atoms B → i ≡ questionAt B + atomSize * j → AtomOf B i
+  in-question : (j : ℕ) → j < atoms B → i ≡ questionAtomsAt B + atomSize * j → AtomOf B i
 
 -- "A used place holds 0 to 31 for a variable or 128 to 127 + C for a constant; an unused place holds 255."
 abbrev pub usedAllowed : ℕ → ℕ → Bool
@@ -72,10 +77,33 @@ pub data AtomWrong (B : List ℕ) (i p : ℕ) : Type 0 where
   place : byte B i < relations B → (w : ℕ) → w < atomPlaces → p ≡ i + 1 + w
       → (T (placeAllowed (constants B) (ltb w (placesOf B (byte B i))) (byte B p)) → ⊥) → AtomWrong B i p
 
-pub record ByteWrong (B : List ℕ) (p : ℕ) : Type 0 where
-  pub atom : ℕ
-  pub isAtom : AtomOf B atom
-  pub wrong : AtomWrong B atom p
+-- The answer record at i: "used places first and at least one used". So the first place is used, and the next ones up
+-- to the first 255 are.
+unfoldable pub usedPlaces : List ℕ → ℕ → ℕ → ℕ
+usedPlaces B i zero = 0
+usedPlaces B i (suc n) = let r = suc (usedPlaces B (i + 1) n) in cond (eqb (byte B i) 255) 0 r
+
+abbrev pub answerPlaces : List ℕ → ℕ → ℕ
+answerPlaces B i = suc (usedPlaces B (i + 2) (atomPlaces - 1))
+
+-- 7 "for its bytes": the relation byte is 255, and its places are allowed as a question atom's are
+pub data AnswerWrong (B : List ℕ) (p : ℕ) : Type 0 where
+  relation : T (announced B) → (byte B (questionAt B) ≡ answerRelation → ⊥) → p ≡ questionAt B → AnswerWrong B p
+  place : T (announced B) → (w : ℕ) → w < atomPlaces → p ≡ questionAt B + 1 + w
+      → (T (placeAllowed (constants B) (ltb w (answerPlaces B (questionAt B))) (byte B p)) → ⊥) → AnswerWrong B p
+
+pub data ByteWrong (B : List ℕ) (p : ℕ) : Type 0 where
+  in-atom : (i : ℕ) → AtomOf B i → AtomWrong B i p → ByteWrong B p
+  in-answer : AnswerWrong B p → ByteWrong B p
+
+-- 11: "an answer variable in no question atom, .. place its byte"
+pub record LooseVariable (B : List ℕ) (p : ℕ) : Type 0 where
+  pub announces : T (announced B)
+  pub place : ℕ
+  pub below : place < atomPlaces
+  pub at : p ≡ questionAt B + 1 + place
+  pub variable : byte B p < variables
+  pub nowhere : var (byte B p) ∈ terms (questionAtoms B) → ⊥
 
 -- "| no. | when | place |"
 pub data ApplicableToBook (B : List ℕ) : ℕ → ℕ → Type 0 where
@@ -85,3 +113,4 @@ pub data ApplicableToBook (B : List ℕ) : ℕ → ℕ → Type 0 where
   five : {p : ℕ} → PlacesWrong B p → ApplicableToBook B 5 p
   six : {p : ℕ} → RuleWrong B p → ApplicableToBook B 6 p
   seven : {p : ℕ} → ByteWrong B p → ApplicableToBook B 7 p
+  eleven : {p : ℕ} → LooseVariable B p → ApplicableToBook B 11 p

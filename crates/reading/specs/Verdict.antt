@@ -1,23 +1,27 @@
 -- What becomes of a book (01, "Refusal numbers"): "The smallest applicable number among 1 to 7 wins, and within it the
--- earliest place." First as a statement over the conditions of `Refusals`, then as a computation. That the computation
--- meets the statement, for every list of bytes, is proved in `proofs/Exact`.
+-- earliest place."; 11 comes "after 7 and before 8" (02, a). First as a statement over the conditions of `Refusals`,
+-- then as a computation. That the computation meets the statement, for every list of bytes, is proved in
+-- `proofs/Exact`.
 use mathlib.Core.Path.{_≡_}
-use mathlib.Core.Bool.{Bool, cond, _&&_}
+use mathlib.Core.Bool.{Bool, cond, not, _&&_, _||_}
 use mathlib.Core.Logic.{_⊎_}
 use mathlib.Core.List.{List}
 use mathlib.Core.Option.{Option, none, some}
-use Prim.Native.Nat.{ℕ, zero, suc, _+_, _*_, _<_, _≤_}
+use Prim.Native.Nat.{ℕ, zero, suc, _+_, _<_, _≤_}
 use lib.Dec.{eqb, ltb, leb}
 use lib.ListN.{length}
-use Rattle.covering.specs.Lists.{orElse}
+use Rattle.covering.specs.Lists.{any, orElse}
+use Rattle.covering.specs.Term.{var, Question, terms, eqTerm}
+use Rattle.covering.specs.Asking.{answerRelation}
 use Rattle.reading.specs.declared.Header.{Header}
 use Rattle.reading.specs.declared.Refusal.{Refusal}
 use Rattle.reading.specs.Word.{byte}
 use Rattle.reading.specs.Header.{headerSize, relations, constants, rules, atoms, questionAt, headerOf, inside}
 use Rattle.reading.specs.Header.{relationsRange, constantsRange, rulesRange, atomsRange, allowedRange}
-use Rattle.reading.specs.Header.{placesRange, bodyRange, headRange, atomSize, atomPlaces}
-use Rattle.reading.specs.Book.{bodyCount, headCount, bodyAt, ruleEnd, rulesStart, placesOf}
-use Rattle.reading.specs.Refusals.{placeAllowed, ApplicableToBook}
+use Rattle.reading.specs.Header.{placesRange, bodyRange, headRange, atomSize, atomPlaces, variables}
+use Rattle.reading.specs.Header.{endWithout, endWith, announced, questionAtomsAt}
+use Rattle.reading.specs.Book.{bodyCount, headCount, bodyAt, ruleEnd, rulesStart, placesOf, questionAtoms}
+use Rattle.reading.specs.Refusals.{placeAllowed, answerPlaces, ApplicableToBook}
 
 -- "0 means complete"; of the book alone, that nothing is wrong with it
 abbrev pub accepted : Refusal
@@ -50,7 +54,8 @@ offsetsRight h size =
     eqb (h .table) headerSize
     && (eqb (h .start) (headerSize + h .relations)
     && (leb (h .start) (h .question)
-    && (eqb (h .total) (h .question + atomSize * h .atoms) && eqb (h .total) size)))
+    && ((eqb (h .total) (endWithout (h .question) (h .atoms)) || eqb (h .total) (endWith (h .question) (h .atoms)))
+    && eqb (h .total) size)))
 
 -- 5: the first wrong byte among the n from i on
 unfoldable pub wrongPlaces : List ℕ → ℕ → ℕ → Option ℕ
@@ -92,8 +97,32 @@ wrongInRules B s (suc n) =
     let r = wrongInRules B (ruleEnd B s) n in
     orElse (wrongInAtoms B (bodyAt B s) (bodyCount B s + headCount B s)) r
 
+-- in the answer record at i
+unfoldable pub wrongAnswer : List ℕ → ℕ → Option ℕ
+wrongAnswer B i =
+    let r = wrongPlace B (answerPlaces B i) (i + 1) 0 atomPlaces in orElse (unless (eqb (byte B i) answerRelation) i) r
+
+-- in the question: its answer record, where the book has one, then its atoms
+unfoldable pub wrongInQuestion : List ℕ → Option ℕ
+wrongInQuestion B =
+    let answer = wrongAnswer B (questionAt B) in
+    orElse (cond (announced B) answer none) (wrongInAtoms B (questionAtomsAt B) (atoms B))
+
 unfoldable pub wrongByte : List ℕ → Option ℕ
-wrongByte B = orElse (wrongInRules B (rulesStart B) (rules B)) (wrongInAtoms B (questionAt B) (atoms B))
+wrongByte B = orElse (wrongInRules B (rulesStart B) (rules B)) (wrongInQuestion B)
+
+-- 11: the byte b is no variable, or it stands in one of these atoms
+abbrev pub standsIn : Question → ℕ → Bool
+standsIn A b = not (ltb b variables) || any (eqTerm (var b)) (terms A)
+
+-- the first variable among the n places from i on that stands in none of these atoms
+unfoldable pub looseFrom : List ℕ → Question → ℕ → ℕ → Option ℕ
+looseFrom B A i zero = none
+looseFrom B A i (suc n) = let r = looseFrom B A (i + 1) n in orElse (unless (standsIn A (byte B i)) i) r
+
+unfoldable pub looseVariable : List ℕ → Option ℕ
+looseVariable B =
+    let loose = looseFrom B (questionAtoms B) (questionAt B + 1) atomPlaces in cond (announced B) loose none
 
 -- number n at the place that was found, or what comes after
 abbrev pub refuse : ℕ → Option ℕ → Refusal → Refusal
@@ -108,7 +137,8 @@ told n o = refuse n o accepted
 unfoldable pub contents : List ℕ → Refusal
 contents B =
     refuse 5 (wrongPlaces B headerSize (relations B))
-    (refuse 6 (wrongRule B (questionAt B) (rulesStart B) (rules B)) (told 7 (wrongByte B)))
+    (refuse 6 (wrongRule B (questionAt B) (rulesStart B) (rules B))
+    (refuse 7 (wrongByte B) (told 11 (looseVariable B))))
 
 -- the numbers in their order, each with the earliest place at which it applies
 unfoldable pub verdict : List ℕ → Refusal

@@ -1,8 +1,10 @@
 // What one rule makes of one question: each valid choice's number and its rewriting, a book a listing. The relation
 // numbers are in the order of the book's relations.
 ghost use Prim.Native.Nat.{_+_, _≤_};
-ghost use Rattle.lister.specs.Asking.{QuestionIn, RuleIn};
+ghost use Rattle.lister.specs.Listing.{QuestionIn, RuleIn};
+ghost use Rattle.covering.specs.Buffer.{recordRoom};
 use book::Parts;
+use covering::RECORD;
 use libc::STDOUT_FILENO;
 
 // No choice has a number as large: five digits' values for each of eight atoms.
@@ -89,8 +91,8 @@ fn show_term(b: u8) {
 }
 
 // The atom at i: its relation, and its terms with commas between.
-fn show_atom(record: &[u8; 56], i: usize)
-    requires { ⌜ i + 5 ≤ 56 ⌝ }
+fn show_atom(record: &[u8; RECORD], i: usize)
+    requires { ⌜ i + 5 ≤ recordRoom ⌝ }
 {
     put(b" r");
     byte(record[i]);
@@ -114,12 +116,12 @@ fn wide(b: u8) -> usize {
 }
 
 // A choice's number, and its rewriting.
-fn show(choice: usize, record: &[u8; 56]) {
+fn show(choice: usize, record: &[u8; RECORD]) {
     number(choice);
     put(b":");
     let n = wide(record[0]);
     let mut i: usize = 0;
-    while i < 11 {
+    while i < 12 {
         if i < n {
             show_atom(record, 1 + 5 * i);
         }

@@ -20,6 +20,10 @@ pub mod Shift
 -- a step is sound and complete for rule application
 pub mod StepSound
 pub mod StepComplete
+-- questions with answer places
+pub mod AnswerRecord
+pub mod ShapeKept
+pub mod AnswerSizes
 -- the list is exactly the published one
 pub mod Puts
 pub mod Pieces

@@ -16,10 +16,6 @@ Choice = List ℕ
 abbrev pub count : ℕ → ℕ → ℕ
 count h n = suc h ^ n
 
--- the most of them: four head atoms, eight question atoms
-abbrev pub mostChoices : ℕ
-mostChoices = 390625
-
 -- "as numbers in base h + 1, the first atom being the most significant digit"
 abbrev pub number : ℕ → Choice → ℕ
 number h [] = 0

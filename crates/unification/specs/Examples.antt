@@ -5,6 +5,7 @@
 use mathlib.Core.List.{List, [], _∷_}
 use Prim.Native.Nat.{ℕ}
 use Rattle.covering.specs.Term.{Term, var, con, Atom, Question}
+use Rattle.covering.specs.Asking.{joined}
 use Rattle.covering.specs.Rule.{Rule}
 
 pub record StepExample : Type 0 where
@@ -155,3 +156,43 @@ equal-heads =
 
 unfoldable pub from-sources : List StepExample
 from-sources = source1 ∷ source3 ∷ source-twins ∷ two-unknowns ∷ equal-heads ∷ []
+
+-- "relations must agree": b(x) to p(x); question q(v0)
+abbrev pub other-relation : StepExample
+other-relation =
+    record {
+      rule = record { body = at1 0 v0 ∷ []; head = at1 1 v0 ∷ [] };
+      question = at1 2 v0 ∷ [];
+      listing = [];
+    }
+
+-- With answer places (02, a) the answer record is always left and is not counted. q(x) to p(x); question a(v0) p(v0):
+-- choice 1 gives a(v0) q(v0).
+abbrev who : StepExample
+who =
+    record {
+      rule = record { body = at1 1 v0 ∷ []; head = at1 0 v0 ∷ [] };
+      question = joined (record { answer = v0 ∷ []; atoms = at1 0 v0 ∷ [] });
+      listing = (1, joined (record { answer = v0 ∷ []; atoms = at1 1 v0 ∷ [] })) ∷ [];
+    }
+
+-- person(x) to parent(x,y); question a(v0) parent(v0,v1): choice 1. Question a(v1) parent(v0,v1): none, since an answer
+-- variable never joins an unknown's class.
+abbrev parents : StepExample
+parents =
+    record {
+      rule = example4 .rule;
+      question = joined (record { answer = v0 ∷ []; atoms = at2 1 v0 v1 ∷ [] });
+      listing = (1, joined (record { answer = v0 ∷ []; atoms = at1 0 v0 ∷ [] })) ∷ [];
+    }
+
+abbrev whose : StepExample
+whose =
+    record {
+      rule = example4 .rule;
+      question = joined (record { answer = v1 ∷ []; atoms = at2 1 v0 v1 ∷ [] });
+      listing = [];
+    }
+
+unfoldable pub asked : List StepExample
+asked = who ∷ parents ∷ whose ∷ []

@@ -11,7 +11,7 @@ use lib.Dec.{eqb}
 use lib.ListN.{getD}
 use Rattle.covering.specs.Lists.{any, all}
 use Rattle.covering.specs.Term.{Term, var, con, Question, Sub, on-term, on-question, on-atom, terms, eqTerm, isVar}
-use Rattle.covering.specs.Record.{desk, termOf, atomsAt}
+use Rattle.covering.specs.Record.{stored, termOf, atomsAt}
 use Rattle.covering.proofs.Bytes.{term-var, term-con, term-same}
 use Rattle.covering.proofs.Lists.{map-none, all-append}
 use Rattle.covering.proofs.Tests.{either}
@@ -91,7 +91,7 @@ module _ (σ : Sub) (t z rep : ℕ) where
 
 -- the left atoms as the code holds them
 abbrev pub leftIn : List ℕ → Question
-leftIn bytes = atomsAt desk bytes 1 (getD bytes 0 0)
+leftIn bytes = atomsAt stored bytes 1 (getD bytes 0 0)
 
 -- a term of a rule that is moved by k is safe: in the order of the tests
 module _ (m : Table) (k : ℕ) (L : Question) (r : Rule) (z rep : Term) (is : rep ≡ look m z) where

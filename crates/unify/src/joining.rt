@@ -9,7 +9,7 @@ ghost use Prim.Native.Nat.{_+_, _≤_, _<_};
 ghost use lib.Dec.{T, eqb};
 ghost use lib.ListN.{length};
 ghost use Rattle.covering.specs.Term.{on-term, on-atom};
-ghost use Rattle.covering.specs.Record.{desk, termOf, argsAt, atomAt, usedFirst, isAtom};
+ghost use Rattle.covering.specs.Record.{stored, termOf, argsAt, atomAt, usedFirst, isAtom};
 ghost use Rattle.unification.specs.Classes.{point};
 ghost use Rattle.unification.specs.Choice.{placePairs, atomPairs};
 ghost use Rattle.unification.specs.Step.{up};
@@ -190,7 +190,7 @@ pub fn join_atoms(question: &[u8], book: &[u8], i: usize, k: usize, table: [u8; 
     requires { ⌜ (i + 5 ≤ length (now question)) × (k + 5 ≤ length (now book)) × T (isAtom inBook (now book) k) ⌝ }
     ensures { λ r. ⌜ joinedTable r
         ≡ unifyTable
-        (atomPairs (atomAt desk (now (question .entry)) i) (on-atom (up 32) (atomAt desk (now (book .entry)) k)))
+        (atomPairs (atomAt stored (now (question .entry)) i) (on-atom (up 32) (atomAt stored (now (book .entry)) k)))
         (classesOf table) ⌝ }
 {
     if question[i] != book[k] {

@@ -2,6 +2,7 @@
 // for question variables that occur in no left atom.
 use crate::byte::moved;
 use crate::byte::stands_for;
+use covering::RECORD;
 ghost use mathlib.Core.Path.{_≡_};
 ghost use mathlib.Core.Bool.{not, _||_};
 ghost use mathlib.Core.List.{map};
@@ -10,7 +11,7 @@ ghost use lib.Dec.{T};
 ghost use lib.ListN.{length, getD};
 ghost use Rattle.covering.specs.Lists.{all};
 ghost use Rattle.covering.specs.Term.{on-term, on-question, terms, eqTerm};
-ghost use Rattle.covering.specs.Record.{desk, termOf, argsAt, atomsAt, usedFirst, questionOf};
+ghost use Rattle.covering.specs.Record.{stored, termOf, argsAt, atomsAt, usedFirst, questionOf};
 ghost use Rattle.covering.specs.Buffer.{AtomsIn};
 ghost use Rattle.unification.specs.Step.{up, move, memTerm, isUnknown, guarded, safe, valid};
 ghost use Rattle.unify.specs.Table.{tabled};
@@ -38,7 +39,7 @@ fn in_places(s: &[u8], i: usize, t: u8) -> bool
 // Whether the term t stands in one of the n atoms from i on.
 fn in_atoms(s: &[u8], i: usize, n: usize, t: u8) -> bool
     requires { ⌜ i + n * 5 ≤ length (now s) ⌝ }
-    ensures { λ r. ⌜ r ≡ memTerm (termOf t) (terms (atomsAt desk (now (s .entry)) i n)) ⌝ }
+    ensures { λ r. ⌜ r ≡ memTerm (termOf t) (terms (atomsAt stored (now (s .entry)) i n)) ⌝ }
 {
     let mut at = i;
     let mut more = n;
@@ -104,7 +105,7 @@ fn apart_atoms(s: &[u8], i: usize, n: usize, shift: u8, z: u8, rep: u8, table: [
     ensures { λ r. ⌜ r
         ≡ all
         (λ t. eqTerm t (termOf z) || not (eqTerm (on-term (tabled (classesOf table)) t) (termOf rep)))
-        (terms (on-question (up shift) (atomsAt desk (now (s .entry)) i n))) ⌝ }
+        (terms (on-question (up shift) (atomsAt stored (now (s .entry)) i n))) ⌝ }
 {
     let mut at = i;
     let mut more = n;
@@ -137,7 +138,7 @@ fn is_safe(
         ≡ safe
         (tabled (classesOf table))
         (guarded
-        (atomsAt desk (now (left .entry)) 1 (getD (now (left .entry)) 0 0))
+        (atomsAt stored (now (left .entry)) 1 (getD (now (left .entry)) 0 0))
         (move 32 (ruleIn (now (book .entry)) body bodies head heads)))
         (termOf z) ⌝ }
 {
@@ -175,7 +176,7 @@ fn is_allowed(
         || safe
         (tabled (classesOf table))
         (guarded
-        (atomsAt desk (now (left .entry)) 1 (getD (now (left .entry)) 0 0))
+        (atomsAt stored (now (left .entry)) 1 (getD (now (left .entry)) 0 0))
         (move 32 (ruleIn (now (book .entry)) body bodies head heads)))
         (on-term (up 32) (termOf u))) ⌝ }
 {
@@ -211,7 +212,7 @@ fn allowed_places(
         || safe
         (tabled (classesOf table))
         (guarded
-        (atomsAt desk (now (left .entry)) 1 (getD (now (left .entry)) 0 0))
+        (atomsAt stored (now (left .entry)) 1 (getD (now (left .entry)) 0 0))
         (move 32 (ruleIn (now (book .entry)) body bodies head heads)))
         z)
         (map (on-term (up 32)) (argsAt (now (book .entry)) i 4)) ⌝ }
@@ -233,7 +234,7 @@ fn allowed_places(
 // Whether the classes in the table are valid for the left atoms, a count byte and so many atoms, and the rule whose
 // body and head stand in the book.
 pub fn is_valid(
-    left: [u8; 56],
+    left: [u8; RECORD],
     book: &[u8],
     body: usize,
     bodies: usize,
@@ -247,7 +248,7 @@ pub fn is_valid(
     ensures { λ r. ⌜ r
         ≡ valid
         (tabled (classesOf table))
-        (questionOf desk left)
+        (questionOf stored left)
         (move 32 (ruleIn (now (book .entry)) body bodies head heads)) ⌝ }
 {
     let mut at = head;

@@ -4,7 +4,7 @@
 //! or `none`), then a line with a single full stop.
 
 use second::against::{command, Against, PATIENCE};
-use second::pairs::{answer, kind, next, Pair, KINDS};
+use second::pairs::{answer, next, Kinds, Pair};
 use second::random::Random;
 use std::process::ExitCode;
 
@@ -65,13 +65,13 @@ fn compare(against: &Against, pairs: &[Pair]) -> Result<(), String> {
 }
 
 /// Compares as many pairs as asked; how many there were of each kind.
-fn compare_all(asked: Asked) -> Result<[usize; KINDS.len()], String> {
+fn compare_all(asked: Asked) -> Result<Kinds, String> {
     let mut random = Random::new(asked.seed);
-    let mut kinds = [0; KINDS.len()];
+    let mut kinds = Kinds::default();
     for start in (0..asked.count).step_by(BATCH) {
         let many = BATCH.min(asked.count - start);
         let pairs: Vec<Pair> = (0..many).map(|_| next(&mut random)).collect();
-        pairs.iter().for_each(|pair| kinds[kind(pair)] += 1);
+        pairs.iter().for_each(|pair| kinds.count(pair));
         if let Some(against) = &asked.against {
             compare(against, &pairs)?;
         }
@@ -88,11 +88,9 @@ fn main() -> ExitCode {
             return ExitCode::FAILURE;
         }
     };
-    for (count, words) in kinds.iter().zip(KINDS) {
-        println!("{count:>10}  {words}");
-    }
-    println!("pairs {}", kinds.iter().sum::<usize>());
-    match kinds.contains(&0) {
+    print!("{}", kinds.table());
+    println!("pairs {}", kinds.pairs);
+    match kinds.counts.contains(&0) {
         false => ExitCode::SUCCESS,
         true => {
             println!("a kind of pair was NOT MET");

@@ -1,17 +1,17 @@
 //! The second check of what a complete union promises: `ledgers [--seconds N] [--count N]
-//! [--seed S] [--old-way]`. Generated books whose runs are complete are put to small
-//! ledgers of named things; a bounded forward chase and the members must agree. Fails if
-//! any disagrees. With `--old-way` the unions are those of one piece at a time, and some
-//! should disagree.
+//! [--seed S] [WAY]`. Generated books whose runs are complete are put to small ledgers of
+//! named things, the empty one among them; a bounded forward chase and the members must
+//! agree on every row. Fails if any disagrees. With the word for a wrong way, such as
+//! `--old-way`, the unions are that one's, and some should disagree.
 
 use second::book::Book;
 use second::explore::{explore_by, Outcome};
-use second::ledger::{check, ledgers, Check};
-use second::print::print_question;
+use second::ledger::{check, ledgers, Checked};
+use second::print::{print_atoms, print_question, print_terms};
 use second::random::Random;
 use second::seen::Seen;
 use second::term::{Atom, Question};
-use second::way::Way;
+use second::way::{Way, WRONG_WAYS};
 use second::{generate, source};
 use std::process::ExitCode;
 use std::time::{Duration, Instant};
@@ -24,7 +24,7 @@ struct Asked {
     way: Way,
 }
 
-/// How often each came out.
+/// How often each came out, over the rows of all ledgers.
 #[derive(Default)]
 struct Counts {
     books: usize,
@@ -32,6 +32,16 @@ struct Counts {
     no: usize,
     undecided: usize,
     disagreed: usize,
+    /// Those among `yes` and `no` of the empty ledger.
+    empty_yes: usize,
+    empty_no: usize,
+}
+
+/// The counts of books without answer places and of those with some.
+#[derive(Default)]
+struct Both {
+    boolean: Counts,
+    answered: Counts,
 }
 
 /// Reads the command line.
@@ -44,8 +54,8 @@ fn asked() -> Result<Asked, String> {
     };
     let mut words = std::env::args().skip(1);
     while let Some(word) = words.next() {
-        if word == "--old-way" {
-            asked.way = Way::OnePiece;
+        if WRONG_WAYS.iter().any(|(wrong, _)| *wrong == word) {
+            asked.way = Way::named(Some(&word));
             continue;
         }
         let value = words.next().and_then(|value| value.parse().ok());
@@ -62,17 +72,45 @@ fn asked() -> Result<Asked, String> {
 
 impl Counts {
     /// Counts one check; the first that disagrees is shown.
-    fn count(&mut self, found: Check, book: &Book, members: &[Question], ledger: &[Atom]) {
-        match found {
-            Check::AgreedYes => self.yes += 1,
-            Check::AgreedNo => self.no += 1,
-            Check::Undecided => self.undecided += 1,
-            Check::Disagreed => {
-                if self.disagreed == 0 {
-                    show(book, members, ledger);
-                }
-                self.disagreed += 1;
-            }
+    fn count(&mut self, found: Checked, book: &Book, members: &[Question], ledger: &[Atom]) {
+        self.yes += found.yes;
+        self.no += found.no;
+        self.undecided += found.undecided;
+        if ledger.is_empty() {
+            self.empty_yes += found.yes;
+            self.empty_no += found.no;
+        }
+        if let (0, Some(row)) = (self.disagreed, found.disagreed.first()) {
+            show(book, members, ledger);
+            println!("row: {}", print_terms(row));
+        }
+        self.disagreed += found.disagreed.len();
+    }
+
+    /// Whether nothing disagreed, and both a yes and a no were met, of the empty ledger too.
+    fn is_fine(&self) -> bool {
+        let of_empty = self.empty_yes > 0 && self.empty_no > 0;
+        self.disagreed == 0 && self.yes > self.empty_yes && self.no > self.empty_no && of_empty
+    }
+
+    /// A line for these counts.
+    fn tell(&self, what: &str) {
+        let (books, yes, no, undecided) = (self.books, self.yes, self.no, self.undecided);
+        let agreed = yes + no;
+        println!(
+            "{what}: books {books}, agreed {agreed} ({yes} yes, {no} no), undecided {undecided}; \
+             of the empty ledger {} yes, {} no",
+            self.empty_yes, self.empty_no
+        );
+    }
+}
+
+impl Both {
+    /// The counts that a book belongs to.
+    fn of(&mut self, book: &Book) -> &mut Counts {
+        match book.question.is_answered() {
+            false => &mut self.boolean,
+            true => &mut self.answered,
         }
     }
 }
@@ -83,22 +121,23 @@ fn show(book: &Book, members: &[Question], ledger: &[Atom]) {
     for member in members {
         println!("  {}", print_question(member));
     }
-    println!("ledger: {}", print_question(&ledger.to_vec()));
+    println!("ledger: {}", print_atoms(ledger));
 }
 
 /// Checks generated books until the count or the time is up.
-fn check_all(asked: &Asked) -> Counts {
-    let mut counts = Counts::default();
+fn check_all(asked: &Asked) -> Both {
+    let mut both = Both::default();
     let mut random = Random::new(asked.seed);
     let start = Instant::now();
-    let more = |counts: &Counts| match asked.count {
-        Some(count) => counts.books < count,
+    let more = |both: &Both| match asked.count {
+        Some(count) => both.boolean.books + both.answered.books < count,
         None => start.elapsed() < Duration::from_secs(asked.seconds),
     };
-    while more(&counts) {
+    while more(&both) {
         let book = generate::sound(&mut random);
         let run = explore_by(&book, asked.way, &mut Seen::default());
         if let Outcome::Complete { members, .. } = run {
+            let counts = both.of(&book);
             counts.books += 1;
             for ledger in ledgers(&book, &members, &mut random) {
                 let found = check(&book, &members, &ledger);
@@ -106,7 +145,7 @@ fn check_all(asked: &Asked) -> Counts {
             }
         }
     }
-    counts
+    both
 }
 
 /// Checks, reports, and fails if anything disagreed.
@@ -118,17 +157,11 @@ fn main() -> ExitCode {
             return ExitCode::FAILURE;
         }
     };
-    let counts = check_all(&asked);
-    println!("books {}", counts.books);
-    println!(
-        "agreed {} ({} yes, {} no)",
-        counts.yes + counts.no,
-        counts.yes,
-        counts.no
-    );
-    println!("undecided {}", counts.undecided);
-    println!("disagreed {}", counts.disagreed);
-    match counts.disagreed == 0 && counts.yes > 0 && counts.no > 0 {
+    let Both { boolean, answered } = check_all(&asked);
+    boolean.tell("yes or no");
+    answered.tell("row by row");
+    println!("disagreed {}", boolean.disagreed + answered.disagreed);
+    match boolean.is_fine() && answered.is_fine() {
         true => ExitCode::SUCCESS,
         false => ExitCode::FAILURE,
     }

@@ -61,6 +61,7 @@ contents-requires c κs =
       is = c .before .before .before .before .read .ensures .is;
       table = true→T _ (table (c .before .before));
       offsets = true→T _ (offsets-are (c .before) ∙ not-false _ (c .if3 .left));
+      question-fits = c .before .before .before .before .read .ensures .question-fits;
     }
 
 returns-4 : tie.Need-returns-4

@@ -1,5 +1,6 @@
 -- The two counts give the rest. Assumes nothing.
 use borrow.Author.Needs.{needs}
+use native.Mathlib.Omega.{arith}
 use mathlib.Core.Path.{_≡_}
 use mathlib.Core.List.{List}
 use Prim.Native.Nat.{ℕ, _+_, _*_}
@@ -36,16 +37,18 @@ mul-t10 c = search needs
 add-t11 : tie.Need-add-t11
 add-t11 c = search needs
 
--- the parts by the counts b and h that were read
-parts-are : (B : List ℕ) (s : ℕ) {b h : ℕ} → b ≡ byte B s → h ≡ byte B (s + 1)
-    → _≡_ {A = Parts} (record { body = s + 2; bodies = b; head = s + 2 + 5 * b; heads = h }) (partsAt B s)
-parts-are B s b h = cc
+-- the parts by their four numbers
+parts-are : (B : List ℕ) (s : ℕ) {w x y z : ℕ} → w ≡ s + 2 → x ≡ byte B s → y ≡ s + 2 + 5 * byte B s
+    → z ≡ byte B (s + 1) → _≡_ {A = Parts} (record { body = w; bodies = x; head = y; heads = z }) (partsAt B s)
+parts-are B s body bodies head heads = cc
 
 returns : tie.Need-returns
 returns c =
     let first = c .before .before in
-    let start = first .before .before .before in
-    parts-are (start .args .book .now) (start .args .s) (first .wide .ensures .0) (c .wide2 .ensures .0)
+    let a = first .before .before .before .args in
+    let b = first .wide .ensures .0 in
+    let h = c .wide2 .ensures .0 in
+    parts-are (a .book .now) (a .s) (omega arith) (omega (arith, b, h)) (omega (arith, b, h)) (omega (arith, b, h))
 
 pub rule-at-spec : {M : Type 1} → statement M
 rule-at-spec =

@@ -65,8 +65,8 @@ loop-holds c =
       search needs,
       refl,
       e,
-      first-only (c .read .result .start) 32 (ruleStart B) e,
-      others-zero (c .read .result .start) 32,
+      first-only _ 32 (ruleStart B) (omega (arith, e)),
+      others-zero _ 32,
     )
 
 add-s : tie.Need-add-s Inv-loop μ-loop

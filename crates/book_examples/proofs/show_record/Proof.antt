@@ -1,14 +1,15 @@
--- Every index is below 56. Assumes nothing.
+-- Every index is below the record's bytes. Assumes nothing.
 use borrow.Author.Needs.{needs}
 use Prim.Native.Nat.{_-_, _≤_}
 use Rattle.book_examples.proofs.show_record.Statement.{statement}
 use Rattle.book_examples.proofs.show_record.Tie as tie
+use Rattle.covering.specs.Buffer.{recordRoom}
 
 abbrev Inv-loop : tie.InvT-loop
-Inv-loop r i₀ t4 t5 i = i ≤ 56
+Inv-loop r i₀ t4 t5 i = i ≤ recordRoom
 
 abbrev μ-loop : tie.MeasureT-loop
-μ-loop r i₀ t4 t5 i = 56 - i
+μ-loop r i₀ t4 t5 i = recordRoom - i
 
 slice-aggregate-put : tie.Need-slice-aggregate-put Inv-loop μ-loop
 slice-aggregate-put c = search needs

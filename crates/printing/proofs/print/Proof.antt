@@ -20,7 +20,7 @@ put-line-requires c κs =
     let if = c .before .before .before in
     let s = if .before .before .before in
     let a = s .args in
-    omega (arith, s .pre .fits, ap length (refusal-text (a .number) (a .place) (a .output .now) (if .if1 .taken)))
+    omega (arith, s .pre .fits, ap length (refusal-text (a .answers) (a .number) (a .place) (a .output .now) (if .if1 .taken)))
 
 same-length : tie.Need-same-length
 same-length c = search needs
@@ -30,7 +30,7 @@ returns c =
     let put = c .before .before in
     let if = put .before .before .before .before in
     let a = if .before .before .before .args in
-    put-as (refusal-text (a .number) (a .place) (a .output .now) (if .if1 .taken)) (put .put-line .ensures)
+    put-as (refusal-text (a .answers) (a .number) (a .place) (a .output .now) (if .if1 .taken)) (put .put-line .ensures)
 
 word-requires : tie.Need-word-requires
 word-requires c κs =
@@ -71,7 +71,7 @@ put-line-requires-2 c κs =
     let f = c .before .before .before in
     let s = start f in
     let a = s .args in
-    omega (arith, s .pre .fits, union-length (a .number) (a .place) (a .output .now) (words f) (omega arith))
+    omega (arith, s .pre .fits, union-length (a .answers) (a .number) (a .place) (a .output .now) (words f) (omega arith))
 
 put-members-requires : tie.Need-put-members-requires
 put-members-requires c κs =
@@ -79,7 +79,7 @@ put-members-requires c κs =
     let s = start f in
     let a = s .args in (
       stands-there (words f) (s .pre .stands (omega arith)),
-      omega (arith, s .pre .fits, union-length (a .number) (a .place) (a .output .now) (words f) (omega arith)),
+      omega (arith, s .pre .fits, union-length (a .answers) (a .number) (a .place) (a .output .now) (words f) (omega arith)),
     )
 
 same-length-2 : tie.Need-same-length-2
@@ -93,7 +93,7 @@ returns-2 c =
     let a = start f .args in
     let m = f .before .before .word .result in
     let e = f .before .word2 .result in
-    put-as (union-text (a .number) (a .place) (a .output .now) (words f) (omega arith))
+    put-as (union-text (a .answers) (a .number) (a .place) (a .output .now) (words f) (omega arith))
     (then {a = line (ascii "members ") m (ascii " explored ") e} (first .put-line2 .ensures)
     (second .put-members .ensures))
 

@@ -4,10 +4,10 @@ use native.Mathlib.Omega.{arith}
 use mathlib.Core.Path.{_≡_, refl, sym}
 use mathlib.Core.Bool.{Bool, true, false, not}
 use Prim.Native.Nat.{_-_, _≤_, _<_}
-use Rattle.unification.specs.Choice.{mostChoices}
 use Rattle.lister.proofs.FromBook.{found-within}
 use Rattle.rewriting_examples.proofs.list.Statement.{statement}
 use Rattle.rewriting_examples.proofs.list.Tie as tie
+use Rattle.lister.specs.Counts.{mostChoices}
 
 abbrev Inv-loop : tie.InvT-loop
 Inv-loop question book rule from₀ from = from ≤ mostChoices

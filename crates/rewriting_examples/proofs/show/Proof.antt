@@ -5,10 +5,10 @@ use Rattle.rewriting_examples.proofs.show.Statement.{statement}
 use Rattle.rewriting_examples.proofs.show.Tie as tie
 
 abbrev Inv-loop : tie.InvT-loop
-Inv-loop choice «record» n i₀ t6 i = i ≤ 11
+Inv-loop choice «record» n i₀ t6 i = i ≤ 12
 
 abbrev μ-loop : tie.MeasureT-loop
-μ-loop choice «record» n i₀ t6 i = 11 - i
+μ-loop choice «record» n i₀ t6 i = 12 - i
 
 number-requires : tie.Need-number-requires Inv-loop μ-loop
 number-requires c κs = search needs

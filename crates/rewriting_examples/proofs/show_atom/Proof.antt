@@ -1,4 +1,4 @@
--- Every index is below 56. Assumes nothing.
+-- Every index is below 61. Assumes nothing.
 use borrow.Author.Needs.{needs}
 use Prim.Native.Nat.{_-_, _≤_}
 use Rattle.rewriting_examples.proofs.show_atom.Statement.{statement}

@@ -9,7 +9,7 @@ use Rattle.reading.specs.Header.{rules}
 use Rattle.reading.specs.Verdict.{SoundBook}
 use Rattle.book.specs.Parts.{partsAt}
 use Rattle.reading.proofs.SoundBook.{sound-long, sound-header, sound-rule}
-use Rattle.lister.specs.Asking.{RuleIn}
+use Rattle.lister.specs.Listing.{RuleIn}
 use Rattle.lister.proofs.FromBook.{rule-in, question-in}
 use Rattle.rewriting_examples.proofs.tell.Statement.{statement}
 use Rattle.rewriting_examples.proofs.tell.Tie as tie

@@ -2,16 +2,17 @@
 use borrow.Author.Needs.{needs}
 use native.Mathlib.Omega.{arith}
 use mathlib.Core.Path.{_≡_}
-use Prim.Native.Nat.{ℕ, _≤_}
+use Prim.Native.Nat.{ℕ, _+_, _≤_}
 use lib.ListN.{length}
 use Rattle.covering.specs.Term.{Question}
 use Rattle.covering.specs.Search.{covers}
-use Rattle.covering.specs.Record.{desk, questionOf, Fits}
-use Rattle.exploration.specs.Union.{membersFrom, firstAt}
+use Rattle.covering.specs.Record.{stored, questionOf, Fits}
+use Rattle.exploration.specs.Union.{firstAt}
+use Rattle.exploration.specs.Held.{heldFrom}
 use Rattle.admit.specs.WorkingArray.{beforeCovering}
 use Rattle.covering.proofs.Lengths.{question-count}
 use Rattle.covering.proofs.Begun.{begun-long}
-use Rattle.covering.proofs.Padded.{sound-desk}
+use Rattle.covering.proofs.Padded.{sound-stored}
 use Rattle.admit.proofs.Array.{stands-all}
 use Rattle.admit.proofs.Fates.{fate-dropped, fate-long, fate-full, room-left, fate-appended}
 use Rattle.admit.proofs.admitting.admit.Statement.{statement}
@@ -29,18 +30,18 @@ abbrev looked : tie.After-remove-covered → tie.Else1
 looked r = r .before .before .before .before
 
 abbrev question : tie.Else1 → Question
-question e = questionOf desk (start e .args .rewriting .now)
+question e = questionOf stored (start e .args .rewriting .now)
 
 first : (e : tie.Else1)
-    → found e ≡ beforeCovering covers (question e) (membersFrom (start e .args .work .now) firstAt (start e .args .filled .count))
+    → found e ≡ beforeCovering covers (question e) (heldFrom (start e .args .work .now) firstAt (start e .args .filled .count))
 first e = e .before .before .member-covering .ensures
 
 -- it is short enough, and there is a working array without what it covers
-short : (r : tie.After-remove-covered) → length (question (looked r)) ≤ 8
-short r = omega (arith, question-count desk (start (looked r) .args .rewriting .now), r .before .before .if2 .left)
+short : (r : tie.After-remove-covered) → length (question (looked r)) ≤ 8 + start (looked r) .args .answers
+short r = omega (arith, question-count stored (start (looked r) .args .rewriting .now), r .before .before .if2 .left)
 
-fits : (r : tie.After-remove-covered) → Fits desk (question (looked r))
-fits r = sound-desk _ (start (looked r) .pre .1)
+fits : (r : tie.After-remove-covered) → Fits stored (question (looked r))
+fits r = sound-stored _ (start (looked r) .pre .1)
 
 member-covering-requires : tie.Need-member-covering-requires
 member-covering-requires c κs = let b = c .before .before .before in (b .pre .0 .few, stands-all (b .pre .0), b .pre .1)
@@ -51,7 +52,10 @@ same-length c = search needs
 returns : tie.Need-returns
 returns c =
     let b = c .before .before .before .before .before .before in
-    fate-dropped (b .pre .0) _ _ (c .before .before .member-covering .ensures) (c .if1 .taken)
+    fate-dropped (b .args .answers) (b .pre .2) (b .pre .0) _ _ (c .before .before .member-covering .ensures) (c .if1 .taken)
+
+add-if2 : tie.Need-add-if2
+add-if2 c = omega (arith, start c .pre .2)
 
 shared-slice-read-if2 : tie.Need-shared-slice-read-if2
 shared-slice-read-if2 c = search needs
@@ -62,8 +66,8 @@ same-length-2 c = search needs
 returns-2 : tie.Need-returns-2
 returns-2 c =
     let e = c .before .before in
-    fate-long (start e .pre .0) _ _ (first e) (e .if1 .left)
-    (omega (arith, question-count desk (start e .args .rewriting .now), c .if2 .taken))
+    fate-long (start e .args .answers) (start e .pre .2) (start e .pre .0) _ _ (first e) (e .if1 .left)
+    (omega (arith, question-count stored (start e .args .rewriting .now), c .if2 .taken))
 
 remove-covered-requires : tie.Need-remove-covered-requires
 remove-covered-requires c κs = search needs
@@ -76,7 +80,7 @@ returns-3 c =
     let r = c .before .before .before .before in
     let e = looked r in
     let kept = r .remove-covered .ensures in
-    fate-full (start e .pre .0) _ _ (first e) (e .if1 .left) (short r) (kept .0) (kept .1) (c .if3 .taken)
+    fate-full (start e .args .answers) (start e .pre .2) (start e .pre .0) _ _ (first e) (e .if1 .left) (short r) (kept .0) (kept .1) (c .if3 .taken)
 
 append-requires : tie.Need-append-requires
 append-requires c κs =
@@ -84,12 +88,12 @@ append-requires c κs =
     let e = looked r in
     let kept = r .remove-covered .ensures in
     let room =
-    room-left (start e .pre .0) _ _ (first e) (e .if1 .left) (short r) (kept .0) (kept .1) (fits r)
+    room-left (start e .args .answers) (start e .pre .2) (start e .pre .0) _ _ (first e) (e .if1 .left) (short r) (kept .0) (kept .1) (fits r)
     (c .before .if3 .left) in
-    (start e .pre .1, omega (arith, room, begun-long desk (start e .args .rewriting .now), kept .0 .held .size))
+    (start e .pre .1, omega (arith, room, begun-long stored (start e .args .rewriting .now), kept .0 .held .size))
 
-add-t6 : tie.Need-add-t6
-add-t6 c = search needs
+add-t7 : tie.Need-add-t7
+add-t7 c = search needs
 
 same-length-4 : tie.Need-same-length-4
 same-length-4 c = search needs
@@ -100,7 +104,7 @@ returns-4 c =
     let e = looked r in
     let kept = r .remove-covered .ensures in
     let put = c .before .before .before .append .ensures in
-    fate-appended (start e .pre .0) _ _ (first e) (e .if1 .left) (short r) (kept .0) (kept .1) (fits r)
+    fate-appended (start e .args .answers) (start e .pre .2) (start e .pre .0) _ _ (first e) (e .if1 .left) (short r) (kept .0) (kept .1) (fits r)
     (c .before .before .before .before .before .if3 .left) _ _ (put .0) (put .1)
 
 pub admit-spec : {M : Type 1} → statement M
@@ -110,6 +114,7 @@ admit-spec =
     member-covering-requires
     same-length
     returns
+    add-if2
     shared-slice-read-if2
     same-length-2
     returns-2
@@ -117,6 +122,6 @@ admit-spec =
     same-length-3
     returns-3
     append-requires
-    add-t6
+    add-t7
     same-length-4
     returns-4)

@@ -2,10 +2,10 @@
 -- of members left.
 use borrow.Author.Needs.{needs}
 use native.Mathlib.Omega.{arith}
-use mathlib.Core.Logic.{_⊎_, ⊎-elim}
+use mathlib.Core.Logic.{⊎-elim}
 use Prim.Native.Nat.{_+_, _*_, _-_, _≤_}
 use lib.ListN.{length, getD}
-use Rattle.covering.specs.Record.{desk, questionOf}
+use Rattle.covering.specs.Record.{stored, questionOf}
 use Rattle.covering.proofs.Tests.{not-true, not-false}
 use Rattle.admit.proofs.Removal.{Midway, midway-start, midway-done, turn-gone, turn-kept, within}
 use Rattle.admit.proofs.Removal.{sound-part, midway-as}
@@ -14,7 +14,7 @@ use Rattle.admit.proofs.removing.keep_uncovered.Tie as tie
 
 abbrev Inv-loop : tie.InvT-loop
 Inv-loop work₀ from to n rewriting at₀ end₀ kept₀ i₀ work at end kept i =
-    Midway work₀ from to n (questionOf desk rewriting) work at end kept i
+    Midway work₀ from to n (questionOf stored rewriting) work at end kept i
 
 abbrev μ-loop : tie.MeasureT-loop
 μ-loop work₀ from to n rewriting at₀ end₀ kept₀ i₀ work at end kept i = n - i
@@ -31,7 +31,7 @@ loop-holds : tie.Need-loop-holds Inv-loop μ-loop
 loop-holds c =
     let b = c .before .before in
     let a = b .args in
-    midway-start (a .work .now) (a .from) (a .to) (a .n) (questionOf desk (a .rewriting .now)) (b .pre .0) (b .pre .2)
+    midway-start (a .work .now) (a .from) (a .to) (a .n) (questionOf stored (a .rewriting .now)) (b .pre .0) (b .pre .2)
 
 slice-read-width : tie.Need-slice-read-width Inv-loop μ-loop
 slice-read-width c = omega (arith, inside (c .before))
@@ -103,7 +103,7 @@ same-length c = c .before .loop .inv .size
 returns : tie.Need-returns Inv-loop μ-loop
 returns c =
     let a = c .before .before .before .before .args in
-    midway-done (a .work .now) (a .from) (a .to) (a .n) (questionOf desk (a .rewriting .now)) (c .before .loop .inv)
+    midway-done (a .work .now) (a .from) (a .to) (a .n) (questionOf stored (a .rewriting .now)) (c .before .loop .inv)
     (c .loop-test .left)
 
 pub keep-uncovered-spec : {M : Type 1} → statement M

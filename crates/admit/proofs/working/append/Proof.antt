@@ -2,13 +2,13 @@
 -- The measure is the number of bytes left.
 use borrow.Author.Needs.{needs}
 use native.Mathlib.Omega.{arith}
-use mathlib.Core.Path.{_≡_, refl, sym, ap, _∙_}
+use mathlib.Core.Path.{_≡_, refl, sym, ap, ap₂, _∙_}
 use mathlib.Core.List.{List, _++_, append-assoc}
-use Prim.Native.Nat.{ℕ, _+_, _-_, _≤_}
+use Prim.Native.Nat.{ℕ, _+_, _-_, _≤_, _<_}
 use lib.ListN.{length, set, length-set, getD, take, drop}
 use lib.Seq.{paste, paste-zero}
-use Rattle.covering.specs.Record.{desk, questionOf, recordBytes, width}
-use Rattle.covering.proofs.RoundTrip.{desk-apart}
+use Rattle.covering.specs.Record.{stored, questionOf, recordBytes, width}
+use Rattle.covering.proofs.RoundTrip.{stored-apart}
 use Rattle.covering.proofs.Begun.{begun-long, begun-record}
 use Rattle.covering.proofs.Slices.{paste-more}
 use Rattle.admit.proofs.working.append.Statement.{statement}
@@ -46,6 +46,12 @@ add-i c = search needs
 loop-less : tie.Need-loop-less Inv-loop μ-loop
 loop-less c = search needs
 
+-- byte k is copied to the place of byte i, which is the same
+more-copied : (W : List ℕ) (len : ℕ) (M w : List ℕ) (i k : ℕ) → w ≡ paste W len M i → k ≡ i
+    → len + i < length W → i < length M → set w (len + i) (getD M k 0) ≡ paste W len M (i + 1)
+more-copied W len M w i k e is hw hm =
+    ap₂ (λ x (j : ℕ). set x (len + i) (getD M j 0)) e is ∙ paste-more W len M i (len + i) refl hw hm
+
 loop-again : tie.Need-loop-again Inv-loop μ-loop
 loop-again c =
     let l = c .before .before in
@@ -53,8 +59,8 @@ loop-again c =
     let i = l .loop .i in (
       search needs,
       simp length-set (omega arith),
-      ap (λ w. set w (a .len + i) (getD (a .member .now) i 0)) (l .loop .inv .2)
-          ∙ paste-more (a .work .now) (a .len) (a .member .now) i (a .len + i) refl (search needs) (search needs),
+      more-copied (a .work .now) (a .len) (a .member .now) _ i _ (l .loop .inv .2) (omega arith) (search needs)
+          (search needs),
     )
 
 add-result : tie.Need-add-result Inv-loop μ-loop
@@ -69,16 +75,16 @@ returns c =
     let a = l .before .before .before .before .before .args in
     let B = a .member .now in
     let W = a .work .now in
-    let wide = width desk (getD B 0 0) in
+    let wide = width stored (getD B 0 0) in
     let is = l .before .width .ensures in
     let end : l .loop .i ≡ wide = omega arith in (
-      ap (λ (n : ℕ). a .len + n) (is ∙ sym (begun-long desk B)),
+      omega (arith, is, begun-long stored B),
       l .loop .inv .2
           ∙ ap (paste W (a .len) B) end
           ∙ ap (λ (r : List ℕ). take (a .len) W ++ r ++ drop (a .len + wide) W)
-          (begun-record desk B desk-apart (l .before .before .before .before .before .pre .0))
-          ∙ append-assoc (take (a .len) W) (recordBytes desk (questionOf desk B)) (drop (a .len + wide) W)
-          ∙ ap (λ (n : ℕ). take (a .len) W ++ (recordBytes desk (questionOf desk B) ++ drop (a .len + n) W)) (sym is),
+          (begun-record stored B stored-apart (l .before .before .before .before .before .pre .0))
+          ∙ append-assoc (take (a .len) W) (recordBytes stored (questionOf stored B)) (drop (a .len + wide) W)
+          ∙ ap (λ (n : ℕ). take (a .len) W ++ (recordBytes stored (questionOf stored B) ++ drop (a .len + n) W)) (sym is),
     )
 
 pub append-spec : {M : Type 1} → statement M

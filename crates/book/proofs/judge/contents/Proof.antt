@@ -6,7 +6,7 @@ use Rattle.reading.specs.declared.Header.{Header}
 use Rattle.reading.specs.Verdict.{told, wrongPlaces, wrongRule}
 use Rattle.book.proofs.JudgedHeader.{known, judged}
 use Rattle.book.proofs.JudgingSteps.{same-number, five, six, told-none, contents-five, contents-six}
-use Rattle.book.proofs.JudgingSteps.{contents-seven}
+use Rattle.book.proofs.JudgingSteps.{contents-seven, contents-eleven}
 use Rattle.book.proofs.judge.contents.Statement.{statement}
 use Rattle.book.proofs.judge.contents.Tie as tie
 
@@ -36,6 +36,14 @@ returns c =
     let e = is-five (c .before .before) in
     e ∙ sym (contents-five _ (λ h. c .if1 .taken (same-number e ∙ h)))
 
+-- 5 does not apply, and 6 does not
+not-five : (c : tie.Else1) → told 5 (five (c .before .before .before .before .args .book .now)) .number ≡ 0
+not-five c = same-number (sym (is-five (c .before .before))) ∙ c .if1 .left
+
+not-six : (c : tie.Else2)
+    → told 6 (six (c .before .before .before .before .before .before .before .before .args .book .now)) .number ≡ 0
+not-six c = same-number (sym (is-six (c .before .before))) ∙ c .if2 .left
+
 add-wrong-rule : tie.Need-add-wrong-rule
 add-wrong-rule c = omega (arith, known (c .before .before .before .before .before .pre) .few-relations)
 
@@ -46,24 +54,32 @@ wrong-rule-requires c κs =
 
 returns-2 : tie.Need-returns-2
 returns-2 c =
-    let d = is-five (c .before .before .before .before .before .before) in
     let e = is-six (c .before .before) in
-    let none = same-number (sym d) ∙ c .before .before .before .before .if1 .left in
-    e ∙ sym (contents-six _ none (λ h. c .if2 .taken (same-number e ∙ h)))
+    e ∙ sym (contents-six _ (not-five (c .before .before .before .before)) (λ h. c .if2 .taken (same-number e ∙ h)))
 
 wrong-byte-requires : tie.Need-wrong-byte-requires
 wrong-byte-requires c κs =
-    let e = is-six (c .before .before) in (
-      c .before .before .before .before .before .before .before .before .pre,
-      told-none 6 (six _) (omega arith) (same-number (sym e) ∙ c .if2 .left),
-    )
+    let start = c .before .before .before .before .before .before .before .before in
+    (start .pre, told-none 6 (six _) (omega arith) (not-six c))
 
 returns-3 : tie.Need-returns-3
 returns-3 c =
-    let d = is-five (c .before .before .before .before .before .before .before) in
-    let e = is-six (c .before .before .before) in
-    let none = same-number (sym d) ∙ c .before .before .before .before .before .if1 .left in
-    c .wrong-byte .ensures ∙ sym (contents-seven _ none (same-number (sym e) ∙ c .before .if2 .left))
+    let e = c .before .before .wrong-byte .ensures in
+    let no-five = not-five (c .before .before .before .before .before .before .before) in
+    let no-six = not-six (c .before .before .before) in
+    e ∙ sym (contents-seven _ no-five no-six (λ h. c .if3 .taken (same-number e ∙ h)))
+
+loose-variable-requires : tie.Need-loose-variable-requires
+loose-variable-requires c κs =
+    c .before .before .before .before .before .before .before .before .before .before .before .pre
+
+returns-4 : tie.Need-returns-4
+returns-4 c =
+    let e = c .before .before .before .wrong-byte .ensures in
+    let no-five = not-five (c .before .before .before .before .before .before .before .before) in
+    let no-six = not-six (c .before .before .before .before) in
+    c .loose-variable .ensures
+    ∙ sym (contents-eleven _ no-five no-six (same-number (sym e) ∙ c .before .if3 .left))
 
 pub contents-spec : {M : Type 1} → statement M
 contents-spec =
@@ -75,4 +91,6 @@ contents-spec =
     wrong-rule-requires
     returns-2
     wrong-byte-requires
-    returns-3)
+    returns-3
+    loose-variable-requires
+    returns-4)

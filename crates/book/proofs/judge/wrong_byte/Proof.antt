@@ -3,7 +3,7 @@ use native.Mathlib.Omega.{arith}
 use mathlib.Core.Path.{_≡_, sym, _∙_, ap, subst}
 use Prim.Native.Nat.{_+_}
 use Rattle.reading.specs.declared.Header.{Header}
-use Rattle.reading.specs.Verdict.{told, wrongRule, wrongInAtoms, wrongInRules}
+use Rattle.reading.specs.Verdict.{told, wrongRule, wrongInRules}
 use Rattle.book.proofs.JudgedHeader.{known, judged}
 use Rattle.book.proofs.JudgingSteps.{same-number, in-rules, byte-in-rules, byte-in-question}
 use Rattle.book.proofs.judge.wrong_byte.Statement.{statement}
@@ -36,22 +36,15 @@ returns c =
     let e = is-rules (c .before .before) in
     e ∙ sym (byte-in-rules _ (λ h. c .if1 .taken (same-number e ∙ h)))
 
-wrong-in-atoms-requires : tie.Need-wrong-in-atoms-requires
-wrong-in-atoms-requires c κs =
-    let start = c .before .before .before .before in
-    (judged (start .pre .0), omega (arith, known (start .pre .0) .ends))
+wrong-in-question-requires : tie.Need-wrong-in-question-requires
+wrong-in-question-requires c κs = c .before .before .before .before .pre .0
 
 returns-2 : tie.Need-returns-2
 returns-2 c =
-    let start = c .before .before .before .before .before in
-    let B = start .args .book .now in
     let e = is-rules (c .before .before .before) in
-    subst (λ (x : Header). c .wrong-in-atoms .result ≡ told 7 (wrongInAtoms B (x .question) (x .atoms)))
-    (start .pre .0 .is)
-    (c .wrong-in-atoms .ensures)
-    ∙ sym (byte-in-question B (same-number (sym e) ∙ c .before .if1 .left))
+    c .wrong-in-question .ensures ∙ sym (byte-in-question _ (same-number (sym e) ∙ c .before .if1 .left))
 
 pub wrong-byte-spec : {M : Type 1} → statement M
 wrong-byte-spec =
     tie.close
-    (tie.spec add-wrong-in-rules wrong-in-rules-requires returns wrong-in-atoms-requires returns-2)
+    (tie.spec add-wrong-in-rules wrong-in-rules-requires returns wrong-in-question-requires returns-2)

@@ -7,7 +7,7 @@ use Prim.Native.Nat.{_+_, _-_, _≤_}
 use borrow.Author.Tests.{not-true, not-false}
 use lib.Dec.{T}
 use Rattle.covering.specs.Search.{placeTerms}
-use Rattle.covering.specs.Record.{desk, argsAt, usedFirst}
+use Rattle.covering.specs.Record.{stored, argsAt, usedFirst}
 use Rattle.cover.specs.HeldMap.{partOf, placedMap}
 use Rattle.covering.proofs.Bytes.{used-more, term-constant}
 use Rattle.cover.proofs.Maps.{places-end, places-short, places-clash, places-next, placed-yes, placed-no}
@@ -18,7 +18,7 @@ use Rattle.cover.proofs.place.place_terms.Tie as tie
 abbrev Inv-loop : tie.InvT-loop
 Inv-loop first second i k so-far₀ j₀ so-far j =
     (j ≤ 4)
-    × T (usedFirst desk first (i + j) (4 - j))
+    × T (usedFirst stored first (i + j) (4 - j))
     × (placeTerms (partOf so-far₀) (argsAt first i 4) (argsAt second k 4)
     ≡ placeTerms (partOf so-far) (argsAt first (i + j) (4 - j)) (argsAt second (k + j) (4 - j)))
 
@@ -66,8 +66,8 @@ place-term-requires c κs =
     let l = c .before .before .before .before .before in
     let a = l .before .before .before .args in
     let used = c .before .if1 .left in
-    let u = used-more (a .first .now) (a .i) (l .loop .j) 4 (omega arith) desk (l .loop .inv .1) used in
-    (term-constant desk _ (u .0), c .if2 .left)
+    let u = used-more (a .first .now) (a .i) (l .loop .j) 4 (omega arith) stored (l .loop .inv .1) used in
+    (term-constant stored _ (u .0), c .if2 .left)
 
 returns-3 : tie.Need-returns-3 Inv-loop μ-loop
 returns-3 c =
@@ -94,7 +94,7 @@ loop-again c =
     let p = c .before .before .place-term in
     let used = c .before .before .before .before .if1 .left in (
       omega arith,
-      used-more (a .first .now) (a .i) (l .loop .j) 4 (omega arith) desk (l .loop .inv .1) used .1,
+      used-more (a .first .now) (a .i) (l .loop .j) 4 (omega arith) stored (l .loop .inv .1) used .1,
       l .loop .inv .2
           ∙ places-next (a .first .now) (a .second .now) (a .i) (a .k) (l .loop .j) 4 (omega arith) _ used
           (c .before .before .before .if2 .left)

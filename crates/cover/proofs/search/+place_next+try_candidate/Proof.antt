@@ -17,7 +17,7 @@ use Rattle.cover.proofs.search.+place_next+try_candidate.Tie.{close}
 use mathlib.Core.Logic.{⊎-elim}
 use borrow.Author.Tests.{not-true}
 use Rattle.covering.specs.Search.{findMap}
-use Rattle.covering.specs.Record.{desk}
+use Rattle.covering.specs.Record.{stored}
 use Rattle.covering.proofs.Tests.{false→no}
 use Rattle.cover.proofs.Ahead.{dead-end}
 use Rattle.cover.proofs.Maps.{placed-yes, placed-no}
@@ -69,7 +69,7 @@ try-candidate-calls t = (
 )
 
 place-next-returns : (t : ℕ) → place-next-lts.Need-returns (place-next-calls t) (place-next-at t) place-next.Post
-place-next-returns t c = placed-yes _ refl ∙ sym (search-done desk _ _ _ _ _ (c .if1 .taken))
+place-next-returns t c = placed-yes _ refl ∙ sym (search-done stored _ _ _ _ _ (c .if1 .taken))
 
 place-next-all-have-requires : (t : ℕ)
     → place-next-lts.Need-all-have-requires (place-next-calls t) (place-next-at t) place-next.Post
@@ -89,21 +89,21 @@ place-next-try-candidate-requires : (t : ℕ)
 place-next-try-candidate-requires t c κs =
     let pre = c .before .before .before .before .before .pre .1 in (
       omega arith,
-      (in-first desk _ _ _ (pre .0) (omega arith), omega arith, omega arith, omega arith, omega arith, omega arith),
+      (in-first stored _ _ _ (pre .0) (omega arith), omega arith, omega arith, omega arith, omega arith, omega arith),
     )
 
 place-next-returns-3 : (t : ℕ) → place-next-lts.Need-returns-3 (place-next-calls t) (place-next-at t) place-next.Post
-place-next-returns-3 t c = c .try-candidate .ensures ∙ sym (search-next desk _ _ _ _ _ (omega arith))
+place-next-returns-3 t c = c .try-candidate .ensures ∙ sym (search-next stored _ _ _ _ _ (omega arith))
 
 try-candidate-returns : (t : ℕ)
     → try-candidate-lts.Need-returns (try-candidate-calls t) (try-candidate-at t) try-candidate.Post
-try-candidate-returns t c = placed-no _ refl ∙ sym (tried-none desk _ _ _ _ _ _ _ (c .if1 .taken))
+try-candidate-returns t c = placed-no _ refl ∙ sym (tried-none stored _ _ _ _ _ _ _ (c .if1 .taken))
 
 try-candidate-place-atom-requires : (t : ℕ)
     → try-candidate-lts.Need-place-atom-requires (try-candidate-calls t) (try-candidate-at t) try-candidate.Post
 try-candidate-place-atom-requires t c κs =
     let pre = c .before .before .before .pre .1 in
-    (omega arith, omega arith, in-rest desk _ _ _ (pre .0) .0)
+    (omega arith, omega arith, in-rest stored _ _ _ (pre .0) .0)
 
 try-candidate-add-place-next : (t : ℕ)
     → try-candidate-lts.Need-add-place-next (try-candidate-calls t) (try-candidate-at t) try-candidate.Post
@@ -113,7 +113,7 @@ try-candidate-place-next-requires : (t : ℕ)
     → try-candidate-lts.Need-place-next-requires (try-candidate-calls t) (try-candidate-at t) try-candidate.Post
 try-candidate-place-next-requires t c κs =
     let pre = c .before .before .before .before .before .before .pre .1 in
-    (omega arith, (in-rest desk _ _ _ (pre .0) .1, omega arith, omega arith, omega arith))
+    (omega arith, (in-rest stored _ _ _ (pre .0) .1, omega arith, omega arith, omega arith))
 
 try-candidate-returns-2 : (t : ℕ)
     → try-candidate-lts.Need-returns-2 (try-candidate-calls t) (try-candidate-at t) try-candidate.Post
@@ -123,7 +123,7 @@ try-candidate-returns-2 t c =
     let placed = sym (p .ensures) ∙ placed-yes (p .result) (c .before .before .before .if2 .taken) in
     placed-yes (q .result) (c .if3 .taken)
     ∙ sym
-    (tried-hit desk _ _ _ _ _ _ _ (omega arith)
+    (tried-hit stored _ _ _ _ _ _ _ (omega arith)
     (then-placed (findMap _ _) placed ∙ sym (q .ensures) ∙ placed-yes (q .result) (c .if3 .taken)))
 
 try-candidate-add-try-candidate : (t : ℕ)
@@ -146,7 +146,7 @@ try-candidate-returns-3 t c =
     let p = c .before .before .place-atom in
     c .try-candidate .ensures
     ∙ sym
-    (tried-miss desk _ _ _ _ _ _ _ (omega arith)
+    (tried-miss stored _ _ _ _ _ _ _ (omega arith)
     (⊎-elim
     (λ w. then-placed (findMap _ _) (sym (p .ensures) ∙ placed-yes (p .result) (w .0 .taken))
     ∙ sym (w .2 .ensures)

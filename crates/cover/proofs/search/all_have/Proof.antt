@@ -4,7 +4,7 @@ use native.Mathlib.Omega.{arith}
 use mathlib.Core.Path.{_≡_, refl, sym, _∙_}
 use borrow.Author.Tests.{not-true, not-false}
 use Rattle.covering.specs.Lists.{all}
-use Rattle.covering.specs.Record.{desk, atomsAt}
+use Rattle.covering.specs.Record.{stored, atomsAt}
 use Rattle.cover.specs.HeldMap.{partOf}
 use Rattle.covering.specs.Buffer.{AtomsIn}
 use Rattle.cover.specs.Candidates.{hasCandidate}
@@ -15,9 +15,9 @@ use Rattle.cover.proofs.search.all_have.Tie as tie
 
 abbrev Inv-loop : tie.InvT-loop
 Inv-loop first second i left w map at₀ more₀ at more =
-    AtomsIn desk first at more
-    × (all (hasCandidate (partOf map) (atomsAt desk second 1 w)) (atomsAt desk first i left)
-    ≡ all (hasCandidate (partOf map) (atomsAt desk second 1 w)) (atomsAt desk first at more))
+    AtomsIn stored first at more
+    × (all (hasCandidate (partOf map) (atomsAt stored second 1 w)) (atomsAt stored first i left)
+    ≡ all (hasCandidate (partOf map) (atomsAt stored second 1 w)) (atomsAt stored first at more))
 
 abbrev μ-loop : tie.MeasureT-loop
 μ-loop first second i left w map at₀ more₀ at more = more
@@ -28,14 +28,14 @@ loop-holds c = (c .before .before .pre .0, refl)
 has-candidate-requires : tie.Need-has-candidate-requires Inv-loop μ-loop
 has-candidate-requires c κs =
     let l = c .before .loop in
-    (omega arith, sound-more desk _ _ _ (omega arith) (l .inv .0 .sound) .0, omega arith)
+    (omega arith, sound-more stored _ _ _ (omega arith) (l .inv .0 .sound) .0, omega arith)
 
 returns : tie.Need-returns Inv-loop μ-loop
 returns c =
     let h = c .before .has-candidate in
     sym
     (c .before .before .before .loop .inv .1
-    ∙ each-fails desk _ _ _ _ (omega arith) (sym (h .ensures) ∙ not-true _ (c .if1 .taken)))
+    ∙ each-fails stored _ _ _ _ (omega arith) (sym (h .ensures) ∙ not-true _ (c .if1 .taken)))
 
 add-at : tie.Need-add-at Inv-loop μ-loop
 add-at c = omega arith
@@ -50,12 +50,12 @@ loop-again : tie.Need-loop-again Inv-loop μ-loop
 loop-again c =
     let h = c .before .has-candidate in
     let l = c .before .before .before .loop in (
-      record { fits = omega arith; sound = sound-more desk _ _ _ (omega arith) (l .inv .0 .sound) .1 },
-      l .inv .1 ∙ each-passes desk _ _ _ _ (omega arith) (sym (h .ensures) ∙ not-false _ (c .if1 .left)),
+      record { fits = omega arith; sound = sound-more stored _ _ _ (omega arith) (l .inv .0 .sound) .1 },
+      l .inv .1 ∙ each-passes stored _ _ _ _ (omega arith) (sym (h .ensures) ∙ not-false _ (c .if1 .left)),
     )
 
 returns-2 : tie.Need-returns-2 Inv-loop μ-loop
-returns-2 c = sym (c .before .loop .inv .1 ∙ each-none desk _ _ _ _ (omega arith))
+returns-2 c = sym (c .before .loop .inv .1 ∙ each-none stored _ _ _ _ (omega arith))
 
 pub all-have-spec : {M : Type 1} → statement M
 all-have-spec =

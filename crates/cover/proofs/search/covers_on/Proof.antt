@@ -2,7 +2,7 @@
 use borrow.Author.Needs.{needs}
 use native.Mathlib.Omega.{arith}
 use mathlib.Core.Path.{_∙_}
-use Rattle.covering.specs.Record.{desk, questionOf}
+use Rattle.covering.specs.Record.{stored, questionOf}
 use Rattle.cover.proofs.Maps.{said-ok}
 use Rattle.cover.proofs.SearchSteps.{on-candidate}
 use Rattle.covering.proofs.Within.{sound-in, in-first}
@@ -33,7 +33,7 @@ add-try-candidate c = search needs
 try-candidate-requires : tie.Need-try-candidate-requires
 try-candidate-requires c κs =
     let start = c .before .before .before .before in (
-      in-first desk _ _ _ (sound-in desk _ (start .pre .0)) (omega arith),
+      in-first stored _ _ _ (sound-in stored _ (start .pre .0)) (omega (arith, start .pre .3)),
       omega arith,
       omega arith,
       omega arith,
@@ -43,7 +43,7 @@ try-candidate-requires c κs =
 
 returns : tie.Need-returns
 unfolding questionOf
-returns c = said-ok (c .try-candidate .result) _ (c .try-candidate .ensures) ∙ on-candidate desk _ _ _ 64 (omega arith)
+returns c = said-ok (c .try-candidate .result) _ (c .try-candidate .ensures) ∙ on-candidate stored _ _ _ 64 (omega arith)
 
 pub covers-on-spec : {M : Type 1} → statement M
 covers-on-spec =

@@ -4,7 +4,7 @@ use native.Mathlib.Omega.{arith}
 use mathlib.Core.Path.{_≡_, refl, sym, _∙_}
 use Prim.Native.Nat.{_+_, _*_, _≤_}
 use lib.ListN.{length}
-use Rattle.covering.specs.Record.{desk, atomAt, atomsAt}
+use Rattle.covering.specs.Record.{stored, atomAt, atomsAt}
 use Rattle.cover.specs.HeldMap.{partOf}
 use Rattle.cover.specs.Candidates.{hasCandidate}
 use Rattle.cover.proofs.Maps.{placed-yes, placed-no}
@@ -15,8 +15,8 @@ use Rattle.cover.proofs.search.has_candidate.Tie as tie
 abbrev Inv-loop : tie.InvT-loop
 Inv-loop first second i w map at₀ more₀ at more =
     (at + more * 5 ≤ length second)
-    × (hasCandidate (partOf map) (atomsAt desk second 1 w) (atomAt desk first i)
-    ≡ hasCandidate (partOf map) (atomsAt desk second at more) (atomAt desk first i))
+    × (hasCandidate (partOf map) (atomsAt stored second 1 w) (atomAt stored first i)
+    ≡ hasCandidate (partOf map) (atomsAt stored second at more) (atomAt stored first i))
 
 abbrev μ-loop : tie.MeasureT-loop
 μ-loop first second i w map at₀ more₀ at more = more
@@ -32,7 +32,7 @@ returns c =
     let p = c .before .place-atom in
     sym
     (c .before .before .before .loop .inv .1
-    ∙ candidate-hit desk _ _ _ _ _ (omega arith) (sym (p .ensures) ∙ placed-yes (p .result) (c .if1 .taken)))
+    ∙ candidate-hit stored _ _ _ _ _ (omega arith) (sym (p .ensures) ∙ placed-yes (p .result) (c .if1 .taken)))
 
 add-at : tie.Need-add-at Inv-loop μ-loop
 add-at c = omega arith
@@ -48,11 +48,11 @@ loop-again c =
     let p = c .before .place-atom in (
       omega arith,
       c .before .before .before .loop .inv .1
-          ∙ candidate-miss desk _ _ _ _ _ (omega arith) (sym (p .ensures) ∙ placed-no (p .result) (c .if1 .left)),
+          ∙ candidate-miss stored _ _ _ _ _ (omega arith) (sym (p .ensures) ∙ placed-no (p .result) (c .if1 .left)),
     )
 
 returns-2 : tie.Need-returns-2 Inv-loop μ-loop
-returns-2 c = sym (c .before .loop .inv .1 ∙ candidate-none desk _ _ _ _ _ (omega arith))
+returns-2 c = sym (c .before .loop .inv .1 ∙ candidate-none stored _ _ _ _ _ (omega arith))
 
 pub has-candidate-spec : {M : Type 1} → statement M
 has-candidate-spec =

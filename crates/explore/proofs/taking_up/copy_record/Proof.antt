@@ -8,8 +8,9 @@ use mathlib.Core.List.{List}
 use Prim.Native.Nat.{ℕ, _-_, _≤_}
 use lib.ListN.{length, set, length-set, getD, replicate}
 use lib.Seq.{paste, paste-zero}
-use Rattle.covering.specs.Record.{desk, width}
-use Rattle.covering.proofs.RoundTrip.{desk-apart}
+use Rattle.covering.specs.Record.{stored, width}
+use Rattle.covering.specs.Buffer.{recordRoom}
+use Rattle.covering.proofs.RoundTrip.{stored-apart}
 use Rattle.covering.proofs.Padded.{begun-held}
 use Rattle.covering.proofs.Slices.{paste-more}
 use Rattle.explore.proofs.taking_up.copy_record.Statement.{statement}
@@ -17,7 +18,7 @@ use Rattle.explore.proofs.taking_up.copy_record.Tie as tie
 
 abbrev Inv-loop : tie.InvT-loop
 Inv-loop member width copy₀ i₀ copy i =
-    (i ≤ width) × (length copy ≡ 56) × (copy ≡ paste (replicate 56 255) 0 member i)
+    (i ≤ width) × (length copy ≡ recordRoom) × (copy ≡ paste (replicate recordRoom 255) 0 member i)
 
 abbrev μ-loop : tie.MeasureT-loop
 μ-loop member width copy₀ i₀ copy i = width - i
@@ -29,7 +30,7 @@ width-requires : tie.Need-width-requires Inv-loop μ-loop
 width-requires c κs = search needs
 
 loop-holds : tie.Need-loop-holds Inv-loop μ-loop
-loop-holds c = (search needs, refl, paste-zero (replicate 56 255) 0 (c .before .before .before .args .member .now))
+loop-holds c = (search needs, refl, paste-zero (replicate recordRoom 255) 0 (c .before .before .before .args .member .now))
 
 shared-slice-read-copy : tie.Need-shared-slice-read-copy Inv-loop μ-loop
 shared-slice-read-copy c = search needs
@@ -51,17 +52,17 @@ loop-again c =
       search needs,
       simp length-set (omega arith),
       ap (λ (w : List ℕ). set w i (getD B i 0)) (l .loop .inv .2)
-          ∙ paste-more (replicate 56 255) 0 B i i (zero-add i) (search needs) (search needs),
+          ∙ paste-more (replicate recordRoom 255) 0 B i i (zero-add i) (search needs) (search needs),
     )
 
 returns : tie.Need-returns Inv-loop μ-loop
 returns c =
     let l = c .before in
     let B = l .before .before .before .before .args .member .now in
-    let end : l .loop .i ≡ width desk (getD B 0 0) = omega (arith, l .before .width .ensures) in
+    let end : l .loop .i ≡ width stored (getD B 0 0) = omega (arith, l .before .width .ensures) in
     l .loop .inv .2
-    ∙ ap (paste (replicate 56 255) 0 B) end
-    ∙ begun-held desk B desk-apart (l .before .before .before .before .pre) 56
+    ∙ ap (paste (replicate recordRoom 255) 0 B) end
+    ∙ begun-held stored B stored-apart (l .before .before .before .before .pre) recordRoom
     (omega (arith, l .before .before .before .before .pre .most))
 
 pub copy-record-spec : {M : Type 1} → statement M

@@ -7,11 +7,11 @@ use mathlib.Core.List.{List}
 use Prim.Native.Nat.{ℕ, _-_, _≤_, _<_}
 use lib.ListN.{drop}
 use Rattle.covering.specs.Term.{Question}
-use Rattle.covering.specs.Record.{desk, questionOf}
+use Rattle.covering.specs.Record.{stored, questionOf}
 use Rattle.reading.specs.Header.{rules as rulesOf}
 use Rattle.reading.specs.Book.{ruleAt, rulesFrom, ruleStart, bookOf}
 use Rattle.reading.proofs.Reading.{rules-left}
-use Rattle.lister.specs.Asking.{foundOf}
+use Rattle.lister.specs.Listing.{foundOf}
 use Rattle.unification.specs.Step.{next}
 use Rattle.exploration.specs.Run.{apart}
 use Rattle.explore.specs.Taking.{nextAmong, taken}
@@ -22,8 +22,8 @@ use Rattle.explore.proofs.taking_up.next_rewriting.Tie as tie
 
 abbrev Inv-loop : tie.InvT-loop
 Inv-loop book rules starts member k from rule₀ choice₀ rule choice =
-    nextAmong (questionOf desk member) k from (drop k (bookOf book .rules))
-    ≡ nextAmong (questionOf desk member) rule choice (rulesFrom book (ruleStart book rule) (rulesOf book - rule))
+    nextAmong (questionOf stored member) k from (drop k (bookOf book .rules))
+    ≡ nextAmong (questionOf stored member) rule choice (rulesFrom book (ruleStart book rule) (rulesOf book - rule))
 
 abbrev μ-loop : tie.MeasureT-loop
 μ-loop book rules starts member k from rule₀ choice₀ rule choice = rules - rule
@@ -36,7 +36,7 @@ abbrev book-of : tie.In-loop Inv-loop μ-loop → List ℕ
 book-of t = start t .args .book .now
 
 abbrev member-of : tie.In-loop Inv-loop μ-loop → Question
-member-of t = questionOf desk (start t .args .member .now)
+member-of t = questionOf stored (start t .args .member .now)
 
 abbrev asking : tie.After-next Inv-loop μ-loop → tie.In-loop Inv-loop μ-loop
 asking n = n .before .before .before
@@ -60,7 +60,7 @@ found n =
 loop-holds : tie.Need-loop-holds Inv-loop μ-loop
 loop-holds c =
     let a = c .before .before .before .args in
-    ap (nextAmong (questionOf desk (a .member .now)) (a .k) (a .from)) (rules-left (a .book .now) (a .k))
+    ap (nextAmong (questionOf stored (a .member .now)) (a .k) (a .from)) (rules-left (a .book .now) (a .k))
 
 mul-rule-at : tie.Need-mul-rule-at Inv-loop μ-loop
 mul-rule-at c = omega (arith, within c, rules-few (book-of c) (start c .pre .0))
@@ -114,7 +114,7 @@ returns-2 c =
     let b = c .before .before .before .before .before in
     let B = b .args .book .now in
     let all : rulesOf B ≤ l .loop .rule = omega (arith, c .loop-test .left, b .pre .1) in
-    (ap taken (sym (l .loop .inv ∙ among-none B (questionOf desk (b .args .member .now)) _ _ all)), search needs)
+    (ap taken (sym (l .loop .inv ∙ among-none B (questionOf stored (b .args .member .now)) _ _ all)), search needs)
 
 pub next-rewriting-spec : {M : Type 1} → statement M
 next-rewriting-spec =

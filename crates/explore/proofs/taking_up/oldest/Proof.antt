@@ -6,10 +6,11 @@ use mathlib.Core.Path.{_≡_, sym, ap, _∙_, subst}
 use mathlib.Core.List.{List}
 use Prim.Native.Nat.{ℕ, _+_, _-_, _≤_, _<_}
 use lib.ListN.{drop}
-use Rattle.covering.specs.Record.{desk, questionOf, SoundRecord}
-use Rattle.covering.specs.Buffer.{heldIn}
+use Rattle.covering.specs.Record.{stored, questionOf, SoundRecord}
+use Rattle.covering.specs.Buffer.{heldIn, recordRoom}
 use Rattle.covering.specs.Lists.{head}
-use Rattle.exploration.specs.Union.{membersFrom, firstAt}
+use Rattle.exploration.specs.Union.{firstAt}
+use Rattle.exploration.specs.Held.{heldFrom}
 use Rattle.exploration.proofs.Standing.{Here}
 use Rattle.covering.proofs.Slices.{part-is}
 use Rattle.admit.proofs.Array.{stands-all}
@@ -82,7 +83,7 @@ part-copy-record-end c = search needs
 copy-record-requires : tie.Need-copy-record-requires Inv-loop μ-loop
 copy-record-requires c κs =
     let l = c .before .before .before in
-    subst (SoundRecord desk) (sym (part-is (l .before .before .args .work .now) (l .loop .at))) (last (c .before) .sound)
+    subst (SoundRecord stored) (sym (part-is (l .before .before .args .work .now) (l .loop .at))) (last (c .before) .sound)
 
 returns : tie.Need-returns Inv-loop μ-loop
 returns c =
@@ -90,10 +91,10 @@ returns c =
     let b = l .before .before in
     let W = b .args .work .now in
     let all : l .loop .passed ≡ b .args .filled .front = omega (arith, c .before .before .if1 .left, l .loop .inv .0) in (
-      questionOf desk (drop (l .loop .at) W),
-      ap (λ (i : ℕ). head (drop i (membersFrom W firstAt (b .args .filled .count)))) (sym all)
+      questionOf stored (drop (l .loop .at) W),
+      ap (λ (i : ℕ). head (drop i (heldFrom W firstAt (b .args .filled .count)))) (sym all)
           ∙ from-head _ _ (l .loop .inv .1) (omega (arith, all, b .pre .1)),
-      c .copy-record .ensures ∙ ap (λ (B : List ℕ). heldIn desk 56 (questionOf desk B)) (part-is W (l .loop .at)),
+      c .copy-record .ensures ∙ ap (λ (B : List ℕ). heldIn stored recordRoom (questionOf stored B)) (part-is W (l .loop .at)),
     )
 
 pub oldest-spec : {M : Type 1} → statement M

@@ -17,17 +17,24 @@ use Rattle.explore.proofs.whole_run.explore_all.Statement.{statement}
 use Rattle.explore.proofs.whole_run.explore_all.Tie as tie
 
 abbrev Inv-loop : tie.InvT-loop
-Inv-loop book work₀ rules allowed starts len filled₀ taken₀ work filled taken = Running book work filled taken
+Inv-loop book work₀ rules allowed answers starts len filled₀ taken₀ work filled taken = Running book work filled taken
 
 abbrev μ-loop : tie.MeasureT-loop
-μ-loop book work₀ rules allowed starts len filled₀ taken₀ work filled taken = allowed - taken
+μ-loop book work₀ rules allowed answers starts len filled₀ taken₀ work filled taken = allowed - taken
 
 -- points of the walk: where a turn begins, where the function began, and the turn whose member is explored
 abbrev turn : tie.Else2 Inv-loop μ-loop → tie.At-loop Inv-loop μ-loop
 turn e = e .before .before .before
 
 abbrev start : tie.At-loop Inv-loop μ-loop → tie.Start Inv-loop μ-loop
-start l = l .before .before .before .before .before .before .before .before .before .before .before
+start l = l .before .before .before .before .before .before .before .before .before .before .before .before
+
+-- after the header was read, and after the answer records were counted
+abbrev reading : tie.At-loop Inv-loop μ-loop → tie.After-read Inv-loop μ-loop
+reading l = l .before .before .before .before .before .before .before .before .before
+
+abbrev counted : tie.At-loop Inv-loop μ-loop → tie.After-answer-records Inv-loop μ-loop
+counted l = l .before .before .before .before .before .before .before .before
 
 abbrev book-of : tie.At-loop Inv-loop μ-loop → List ℕ
 book-of l = start l .args .book .now
@@ -38,18 +45,21 @@ taking-up x = x .before .before .before .before .before .before .before
 read-requires : tie.Need-read-requires Inv-loop μ-loop
 read-requires c κs = sound-long _ (c .before .before .pre .0)
 
+answer-records-requires : tie.Need-answer-records-requires Inv-loop μ-loop
+answer-records-requires c κs = c .before .before .before .pre .0
+
 starts-requires : tie.Need-starts-requires Inv-loop μ-loop
-starts-requires c κs = c .before .before .before .pre .0
+starts-requires c κs = c .before .before .before .before .pre .0
 
 first-member-requires : tie.Need-first-member-requires Inv-loop μ-loop
-first-member-requires c κs = c .before .before .before .before .pre .0
+first-member-requires c κs = c .before .before .before .before .before .pre .0
 
 slice-aggregate-append : tie.Need-slice-aggregate-append Inv-loop μ-loop
 slice-aggregate-append c = search needs
 
 append-requires : tie.Need-append-requires Inv-loop μ-loop
 append-requires c κs =
-    let b = c .before .before .before .before .before .before .before in
+    let b = c .before .before .before .before .before .before .before .before in
     let is = c .before .before .first-member .ensures in
     let B = b .args .book .now in
     let W = b .args .work .now in
@@ -57,7 +67,7 @@ append-requires c κs =
 
 loop-holds : tie.Need-loop-holds Inv-loop μ-loop
 loop-holds c =
-    let b = c .before .before .before .before .before .before .before .before .before .before in
+    let b = c .before .before .before .before .before .before .before .before .before .before .before in
     let put = c .before .before .append .ensures in
     first-running (b .args .book .now) (b .pre .0) (b .args .work .now) (b .pre .1) _
     (c .before .before .before .before .before .first-member .ensures) _ _ (put .0) (put .1)
@@ -71,8 +81,8 @@ same-length c = sized (c .before .before .before)
 
 -- the explorations allowed, as they were read
 allowed-is : (l : tie.At-loop Inv-loop μ-loop)
-    → l .before .before .before .before .before .before .before .before .read .result .allowed ≡ bookOf (book-of l) .allowed
-allowed-is l = allowed-read (book-of l) _ (l .before .before .before .before .before .before .before .before .read .ensures)
+    → reading l .read .result .allowed ≡ bookOf (book-of l) .allowed
+allowed-is l = allowed-read (book-of l) _ (reading l .read .ensures)
 
 returns : tie.Need-returns Inv-loop μ-loop
 returns c =
@@ -107,10 +117,11 @@ explore-requires c κs =
     let s = start l .pre .0 in
     let old = c .before .before .before .before .oldest .ensures in (
       s,
-      rules-read (book-of l) s _ (l .before .before .before .before .before .before .before .before .read .ensures),
+      omega (arith, rules-read (book-of l) s _ (reading l .read .ensures)),
       l .before .before .before .before .before .before .before .starts .ensures,
       member-of (book-of l) (l .loop .inv) (e .before .if1 .taken) (more e) s (old .0) (old .1) _ (old .2),
       taken-working (book-of l) (l .loop .inv) (e .before .if1 .taken) (more e),
+      counted l .answer-records .ensures,
     )
 
 enum-known-explored : tie.Need-enum-known-explored Inv-loop μ-loop
@@ -159,6 +170,7 @@ explore-all-spec =
     Inv-loop
     μ-loop
     read-requires
+    answer-records-requires
     starts-requires
     first-member-requires
     slice-aggregate-append

@@ -8,10 +8,10 @@ use borrow.Author.Count.{below-more}
 use lib.ListN.{length, getD, length-set}
 use lib.Seq.{ext-getD}
 use Rattle.covering.specs.Term.{on-atom}
-use Rattle.covering.specs.Record.{desk, atomAt, atomBytes}
+use Rattle.covering.specs.Record.{stored, atomAt, atomBytes}
 use Rattle.forming.specs.Building.{subOf}
 use Rattle.covering.proofs.Lengths.{atom-long}
-use Rattle.covering.proofs.RoundTrip.{desk-apart}
+use Rattle.covering.proofs.RoundTrip.{stored-apart}
 use Rattle.forming.proofs.AtomBytes.{place-byte, atom-on-relation, atom-on-place, set-agrees}
 use Rattle.forming.proofs.formed.atom_on.Statement.{statement}
 use Rattle.forming.proofs.formed.atom_on.Tie as tie
@@ -23,7 +23,7 @@ Inv-loop table from at atom₀ j₀ atom j =
     × (length atom ≡ 5)
     × ((m : ℕ)
     → m < j
-    → getD atom m 0 ≡ getD (atomBytes desk (on-atom (subOf table) (atomAt desk from at))) m 0)
+    → getD atom m 0 ≡ getD (atomBytes stored (on-atom (subOf table) (atomAt stored from at))) m 0)
 
 abbrev μ-loop : tie.MeasureT-loop
 μ-loop table from at atom₀ j₀ atom j = 5 - j
@@ -39,7 +39,7 @@ loop-holds c = (
   omega arith,
   omega arith,
   refl,
-  below-more _ 0 (λ m h. absurd (omega arith)) (sym (atom-on-relation desk desk-apart _ _ _)),
+  below-more _ 0 (λ m h. absurd (omega arith)) (sym (atom-on-relation stored stored-apart _ _ _)),
 )
 
 add-replaced : tie.Need-add-replaced Inv-loop μ-loop
@@ -67,20 +67,20 @@ loop-again c =
     let l = c .before .before .before in
     let a = l .before .before .before .args in
     let t = l .before .before .before .pre .sound in
-    let atom = on-atom (subOf (a .table)) (atomAt desk (a .from .now) (a .at)) in
+    let atom = on-atom (subOf (a .table)) (atomAt stored (a .from .now) (a .at)) in
     let lt : l .loop .j < length (l .loop .atom) = omega arith in (
       omega arith,
       omega arith,
       simp length-set (l .loop .inv .2),
-      set-agrees (l .loop .atom) (atomBytes desk atom) (l .loop .j) _ lt (l .loop .inv .3)
+      set-agrees (l .loop .atom) (atomBytes stored atom) (l .loop .j) _ lt (l .loop .inv .3)
           (c .replaced .ensures
-          ∙ sym (atom-on-place desk desk-apart _ _ _ (l .loop .j) t (omega arith) (omega arith))),
+          ∙ sym (atom-on-place stored stored-apart _ _ _ (l .loop .j) t (omega arith) (omega arith))),
     )
 
 returns : tie.Need-returns Inv-loop μ-loop
 returns c =
     let l = c .before in
-    ext-getD 0 _ _ (l .loop .inv .2 ∙ sym (atom-long desk _)) (λ m lt. l .loop .inv .3 m (omega arith))
+    ext-getD 0 _ _ (l .loop .inv .2 ∙ sym (atom-long stored _)) (λ m lt. l .loop .inv .3 m (omega arith))
 
 pub atom-on-spec : {M : Type 1} → statement M
 atom-on-spec =

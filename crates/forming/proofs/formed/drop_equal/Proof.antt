@@ -8,11 +8,11 @@ use Prim.Native.Nat.{ℕ, _+_, _*_, _-_, _≤_}
 use lib.ListN.{getD}
 use Rattle.covering.specs.Term.{Question, eqAtom}
 use Rattle.covering.specs.Form.{dedup}
-use Rattle.covering.specs.Record.{desk, atomsAt, questionOf}
-use Rattle.covering.specs.Buffer.{heldIn, AtomsIn}
+use Rattle.covering.specs.Record.{stored, atomsAt, questionOf}
+use Rattle.covering.specs.Buffer.{heldIn, AtomsIn, recordRoom}
 use Rattle.forming.specs.Building.{addedAll}
 use Rattle.covering.proofs.Within.{sound-in}
-use Rattle.covering.proofs.RoundTrip.{desk-apart}
+use Rattle.covering.proofs.RoundTrip.{stored-apart}
 use Rattle.forming.proofs.Leftward.{dedup-leftward}
 use Rattle.covering.proofs.Fitting.{atom-fits}
 use Rattle.forming.proofs.Passing.{in-next, added-done, added-next}
@@ -23,10 +23,10 @@ use Rattle.forming.proofs.formed.drop_equal.Tie as tie
 -- what is known with `left` atoms from i on yet to come
 abbrev At : List ℕ → List ℕ → ℕ → ℕ → Type 0
 At member kept i left =
-    AtomsIn desk member i left
+    AtomsIn stored member i left
     × ((K : Question)
-    × Grows desk 56 kept K left
-    × (dedup (questionOf desk member) ≡ addedAll eqAtom K (atomsAt desk member i left)))
+    × Grows stored recordRoom kept K left
+    × (dedup (questionOf stored member) ≡ addedAll eqAtom K (atomsAt stored member i left)))
 
 abbrev Inv-loop : tie.InvT-loop
 Inv-loop member kept₀ n left₀ kept left = (left ≤ n) × At member kept (1 + (n - left) * 5) left
@@ -49,9 +49,9 @@ loop-holds c =
     let p = c .before .before .before .pre in
     let m = c .before .before .before .args .member .now in
     let first : 1 ≡ 1 + (getD m 0 0 - getD m 0 0) * 5 = omega arith in
-    let none = grows-none desk 56 _ (getD m 0 0) (c .before .no-atoms .ensures) (omega (arith, p .most)) in
+    let none = grows-none stored recordRoom _ (getD m 0 0) (c .before .no-atoms .ensures) (omega (arith, p .most)) in
     let k = c .before .no-atoms .result in
-    let start : At m k 1 (getD m 0 0) = (sound-in desk m p, ([], none, dedup-leftward _)) in
+    let start : At m k 1 (getD m 0 0) = (sound-in stored m p, ([], none, dedup-leftward _)) in
     (omega arith, subst (λ i. At m k i (getD m 0 0)) first start)
 
 sub-at : tie.Need-sub-at Inv-loop μ-loop
@@ -67,8 +67,8 @@ put-new-requires : tie.Need-put-new-requires Inv-loop μ-loop
 put-new-requires c κs =
     let l = c .before in
     let s = l .loop .inv .1 .1 in (
-      grows-room desk desk-apart 56 _ (s .0) _ (s .1) (c .loop-test .taken),
-      in-next desk _ _ _ (l .loop .inv .1 .0) (c .loop-test .taken) .0,
+      grows-room stored stored-apart recordRoom _ (s .0) _ (s .1) (c .loop-test .taken),
+      in-next stored _ _ _ (l .loop .inv .1 .0) (c .loop-test .taken) .0,
     )
 
 sub-left : tie.Need-sub-left Inv-loop μ-loop
@@ -82,9 +82,9 @@ loop-again c =
     let l = c .before .before in
     let s = l .loop .inv .1 .1 in
     let some = c .before .loop-test .taken in
-    let next = in-next desk _ _ _ (l .loop .inv .1 .0) some in
-    let fits = atom-fits desk desk-apart _ (omega arith) _ (next .0 .sound) in
-    let more = grows-added desk desk-apart 56 _ (s .0) _ (s .1) _ _ fits some (c .put-new .ensures) in
+    let next = in-next stored _ _ _ (l .loop .inv .1 .0) some in
+    let fits = atom-fits stored stored-apart _ (omega arith) _ (next .0 .sound) in
+    let more = grows-added stored stored-apart recordRoom _ (s .0) _ (s .1) _ _ fits some (c .put-new .ensures) in
     let m = l .before .before .before .before .args .member .now in
     let n = getD m 0 0 in
     let left = l .loop .left in
@@ -93,13 +93,13 @@ loop-again c =
       subst
           (λ i. At m (c .put-new .result) i (left - 1))
           onward
-          (next .1, (_, more, s .2 ∙ added-next desk _ _ _ (s .0) some)),
+          (next .1, (_, more, s .2 ∙ added-next stored _ _ _ (s .0) some)),
     )
 
 returns : tie.Need-returns Inv-loop μ-loop
 returns c =
     let s = c .before .loop .inv .1 .1 in
-    s .1 .bytes ∙ ap (heldIn desk 56) (sym (s .2 ∙ added-done desk _ _ _ (s .0) (omega arith)))
+    s .1 .bytes ∙ ap (heldIn stored recordRoom) (sym (s .2 ∙ added-done stored _ _ _ (s .0) (omega arith)))
 
 pub drop-equal-spec : {M : Type 1} → statement M
 drop-equal-spec =

@@ -3,7 +3,7 @@
 use native.Mathlib.Omega.{arith}
 use mathlib.Core.Path.{_≡_, refl, sym, _∙_}
 use Rattle.covering.specs.Term.{eqAtom}
-use Rattle.covering.specs.Record.{desk, atomAt, atomsAt, questionOf}
+use Rattle.covering.specs.Record.{stored, atomAt, atomsAt, questionOf}
 use Rattle.covering.specs.Buffer.{AtomsIn}
 use Rattle.forming.specs.Building.{has}
 use Rattle.forming.proofs.Passing.{in-next, some-none, some-hit, some-miss}
@@ -12,9 +12,9 @@ use Rattle.forming.proofs.formed.has_atom.Tie as tie
 
 abbrev Inv-loop : tie.InvT-loop
 Inv-loop kept from at i₀ left₀ i left =
-    AtomsIn desk kept i left
-    × (has eqAtom (questionOf desk kept) (atomAt desk from at)
-    ≡ has eqAtom (atomsAt desk kept i left) (atomAt desk from at))
+    AtomsIn stored kept i left
+    × (has eqAtom (questionOf stored kept) (atomAt stored from at)
+    ≡ has eqAtom (atomsAt stored kept i left) (atomAt stored from at))
 
 abbrev μ-loop : tie.MeasureT-loop
 μ-loop kept from at i₀ left₀ i left = left
@@ -32,14 +32,14 @@ loop-holds c = (c .before .before .before .pre .0, refl)
 same-atom-requires : tie.Need-same-atom-requires Inv-loop μ-loop
 same-atom-requires c κs =
     let l = c .before in
-    (in-next desk _ _ _ (l .loop .inv .0) (c .loop-test .taken) .0, l .before .before .before .before .pre .1)
+    (in-next stored _ _ _ (l .loop .inv .0) (c .loop-test .taken) .0, l .before .before .before .before .pre .1)
 
 returns : tie.Need-returns Inv-loop μ-loop
 returns c =
     let l = c .before .before .before in
     sym
     (l .loop .inv .1
-    ∙ some-hit desk _ _ _ _ (omega arith) (sym (c .before .same-atom .ensures) ∙ c .if1 .taken))
+    ∙ some-hit stored _ _ _ _ (omega arith) (sym (c .before .same-atom .ensures) ∙ c .if1 .taken))
 
 add-i : tie.Need-add-i Inv-loop μ-loop
 add-i c = omega arith
@@ -53,13 +53,13 @@ loop-less c = omega arith
 loop-again : tie.Need-loop-again Inv-loop μ-loop
 loop-again c =
     let l = c .before .before .before in (
-      in-next desk _ _ _ (l .loop .inv .0) (omega arith) .1,
+      in-next stored _ _ _ (l .loop .inv .0) (omega arith) .1,
       l .loop .inv .1
-          ∙ some-miss desk _ _ _ _ (omega arith) (sym (c .before .same-atom .ensures) ∙ c .if1 .left),
+          ∙ some-miss stored _ _ _ _ (omega arith) (sym (c .before .same-atom .ensures) ∙ c .if1 .left),
     )
 
 returns-2 : tie.Need-returns-2 Inv-loop μ-loop
-returns-2 c = sym (c .before .loop .inv .1 ∙ some-none desk _ _ _ _ (omega arith))
+returns-2 c = sym (c .before .loop .inv .1 ∙ some-none stored _ _ _ _ (omega arith))
 
 pub has-atom-spec : {M : Type 1} → statement M
 has-atom-spec =

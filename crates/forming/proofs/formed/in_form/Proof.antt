@@ -4,9 +4,9 @@ use borrow.Author.Needs.{needs}
 use native.Mathlib.Omega.{arith}
 use mathlib.Core.Path.{ap, _∙_}
 use Rattle.covering.specs.Form.{renumber, form}
-use Rattle.covering.specs.Record.{desk}
-use Rattle.covering.specs.Buffer.{heldIn}
-use Rattle.covering.proofs.RoundTrip.{desk-apart}
+use Rattle.covering.specs.Record.{stored}
+use Rattle.covering.specs.Buffer.{heldIn, recordRoom}
+use Rattle.covering.proofs.RoundTrip.{stored-apart}
 use Rattle.forming.proofs.Growing.{dropped-sound, dropped-question}
 use Rattle.forming.proofs.formed.in_form.Statement.{statement}
 use Rattle.forming.proofs.formed.in_form.Tie as tie
@@ -23,15 +23,15 @@ slice-aggregate-renumbered c = search needs
 renumbered-requires : tie.Need-renumbered-requires
 renumbered-requires c κs =
     let d = c .before in
-    dropped-sound desk desk-apart (omega arith) 56 (omega arith) _ (d .before .before .pre) _ (d .drop-equal .ensures)
+    dropped-sound stored stored-apart (omega arith) recordRoom (omega arith) _ (d .before .before .pre) _ (d .drop-equal .ensures)
 
 returns : tie.Need-returns
 unfolding form
 returns c =
     let d = c .before .before in
-    let question = dropped-question desk desk-apart (omega arith) 56 (omega arith) in
+    let question = dropped-question stored stored-apart (omega arith) recordRoom (omega arith) in
     c .renumbered .ensures
-    ∙ ap (λ A. heldIn desk 56 (renumber A)) (question _ (d .before .before .pre) _ (d .drop-equal .ensures))
+    ∙ ap (λ A. heldIn stored recordRoom (renumber A)) (question _ (d .before .before .pre) _ (d .drop-equal .ensures))
 
 pub in-form-spec : {M : Type 1} → statement M
 in-form-spec =

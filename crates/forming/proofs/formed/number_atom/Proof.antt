@@ -6,7 +6,7 @@ use mathlib.Core.Path.{_≡_, refl, sym, _∙_, subst}
 use mathlib.Core.List.{List}
 use Prim.Native.Nat.{ℕ, _+_, _-_, _≤_}
 use lib.Dec.{T}
-use Rattle.covering.specs.Record.{desk, argsAt, atomAt, usedFirst}
+use Rattle.covering.specs.Record.{stored, argsAt, atomAt, usedFirst}
 use Rattle.forming.specs.Building.{allSeen, NumberTable}
 use Rattle.covering.proofs.Bytes.{used-more, term-constant, atom-used}
 use Rattle.forming.proofs.Renaming.{seen-end, seen-more, seen-done}
@@ -17,7 +17,7 @@ abbrev Inv-loop : tie.InvT-loop
 Inv-loop count from at known₀ given₀ j₀ known given j =
     (j ≤ 4)
     × (given ≤ given₀ + j)
-    × T (usedFirst desk from (at + 1 + j) (4 - j))
+    × T (usedFirst stored from (at + 1 + j) (4 - j))
     × ((S : List ℕ)
     → NumberTable S known₀ given₀
     → (M : List ℕ)
@@ -31,7 +31,7 @@ loop-holds : tie.Need-loop-holds Inv-loop μ-loop
 loop-holds c = (
   omega arith,
   omega arith,
-  rw add-zero (atom-used desk _ _ (c .before .pre .0 .sound)),
+  rw add-zero (atom-used stored _ _ (c .before .pre .0 .sound)),
   λ S k. (S, k, rw add-zero refl),
 )
 
@@ -58,8 +58,8 @@ returns c =
 number-term-requires : tie.Need-number-term-requires Inv-loop μ-loop
 number-term-requires c κs =
     let l = c .before .before .before in
-    let u = used-more _ _ (l .loop .j) 4 (omega arith) desk (l .loop .inv .2) (c .if1 .left) in
-    (term-constant desk _ (u .0), omega arith)
+    let u = used-more _ _ (l .loop .j) 4 (omega arith) stored (l .loop .inv .2) (c .if1 .left) in
+    (term-constant stored _ (u .0), omega arith)
 
 add-j : tie.Need-add-j Inv-loop μ-loop
 add-j c = omega arith
@@ -74,7 +74,7 @@ loop-again c =
     let n = c .before .number-term in (
       omega arith,
       omega (arith, n .ensures .0),
-      used-more _ _ (l .loop .j) 4 (omega arith) desk (l .loop .inv .2) used .1,
+      used-more _ _ (l .loop .j) 4 (omega arith) stored (l .loop .inv .2) used .1,
       λ S k.
           let r = l .loop .inv .3 S k in
           (_, n .ensures .1 (r .0) (r .1), r .2 ∙ seen-more _ _ _ 4 (omega arith) (r .0) used),

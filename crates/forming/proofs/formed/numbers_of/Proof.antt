@@ -7,7 +7,7 @@ use mathlib.Core.List.{List, []}
 use Prim.Native.Nat.{ℕ, _+_, _*_, _≤_}
 use Rattle.covering.specs.Term.{terms}
 use Rattle.covering.specs.Form.{firsts}
-use Rattle.covering.specs.Record.{desk, atomsAt, questionOf}
+use Rattle.covering.specs.Record.{stored, atomsAt, questionOf}
 use Rattle.covering.specs.Buffer.{AtomsIn}
 use Rattle.forming.specs.Building.{allSeen, newNumber, NumberTable}
 use Rattle.covering.proofs.Within.{sound-in}
@@ -19,11 +19,11 @@ use Rattle.forming.proofs.formed.numbers_of.Tie as tie
 
 abbrev Inv-loop : tie.InvT-loop
 Inv-loop member table₀ count₀ at₀ left₀ table count at left =
-    AtomsIn desk member at left
-    × (count + left * 4 ≤ 44)
+    AtomsIn stored member at left
+    × (count + left * 4 ≤ 48)
     × ((S : List ℕ)
     × NumberTable S table count
-    × (firsts (terms (questionOf desk member)) ≡ allSeen S (terms (atomsAt desk member at left))))
+    × (firsts (terms (questionOf stored member)) ≡ allSeen S (terms (atomsAt stored member at left))))
 
 abbrev μ-loop : tie.MeasureT-loop
 μ-loop member table₀ count₀ at₀ left₀ table count at left = left
@@ -38,12 +38,12 @@ loop-holds : tie.Need-loop-holds Inv-loop μ-loop
 unfolding questionOf
 loop-holds c =
     let p = c .before .before .pre in
-    (sound-in desk _ p, omega (arith, p .most), ([], numbered-none, firsts-leftward _))
+    (sound-in stored _ p, omega (arith, p .most), ([], numbered-none, firsts-leftward _))
 
 number-atom-requires : tie.Need-number-atom-requires Inv-loop μ-loop
 number-atom-requires c κs =
     let l = c .before in
-    (in-next desk _ _ _ (l .loop .inv .0) (c .loop-test .taken) .0, omega (arith, l .loop .inv .1))
+    (in-next stored _ _ _ (l .loop .inv .0) (c .loop-test .taken) .0, omega (arith, l .loop .inv .1))
 
 add-at : tie.Need-add-at Inv-loop μ-loop
 add-at c = omega arith
@@ -59,15 +59,15 @@ loop-again c =
     let l = c .before .before .before in
     let n = c .before .number-atom in
     let s = l .loop .inv .2 in (
-      in-next desk _ _ _ (l .loop .inv .0) (omega arith) .1,
+      in-next stored _ _ _ (l .loop .inv .0) (omega arith) .1,
       omega (arith, l .loop .inv .1, n .ensures .0),
-      (_, n .ensures .1 (s .0) (s .1), s .2 ∙ terms-next desk _ _ _ (s .0) (omega arith)),
+      (_, n .ensures .1 (s .0) (s .1), s .2 ∙ terms-next stored _ _ _ (s .0) (omega arith)),
     )
 
 returns : tie.Need-returns Inv-loop μ-loop
 returns c =
     let s = c .before .loop .inv .2 in
-    λ n lt. s .1 .each n lt ∙ ap (λ S. newNumber S n) (sym (s .2 ∙ terms-none desk _ _ _ (s .0) (omega arith)))
+    λ n lt. s .1 .each n lt ∙ ap (λ S. newNumber S n) (sym (s .2 ∙ terms-none stored _ _ _ (s .0) (omega arith)))
 
 pub numbers-of-spec : {M : Type 1} → statement M
 numbers-of-spec =

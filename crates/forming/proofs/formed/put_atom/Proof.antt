@@ -2,14 +2,15 @@
 -- the record's own atoms, whose count is one more already. The measure is the number of bytes left.
 use borrow.Author.Needs.{needs}
 use native.Mathlib.Omega.{arith}
-use mathlib.Core.Path.{_≡_, ap, _∙_}
-use Prim.Native.Nat.{_+_, _*_, _-_, _≤_}
+use mathlib.Core.Path.{_≡_, ap₂, _∙_}
+use Prim.Native.Nat.{ℕ, _+_, _-_, _≤_}
 use lib.ListN.{getD, set, drop, length-set}
 use lib.Seq.{paste, paste-zero}
-use Rattle.covering.specs.Record.{desk}
+use Rattle.covering.specs.Record.{stored}
+use Rattle.covering.specs.Buffer.{recordRoom}
 use Rattle.covering.proofs.Padded.{put-after}
 use Rattle.covering.proofs.Slices.{paste-next}
-use Rattle.covering.proofs.RoundTrip.{desk-apart}
+use Rattle.covering.proofs.RoundTrip.{stored-apart}
 use Rattle.forming.proofs.AtomBytes.{atom-bytes}
 use Rattle.forming.proofs.formed.put_atom.Statement.{statement}
 use Rattle.forming.proofs.formed.put_atom.Tie as tie
@@ -23,14 +24,8 @@ abbrev μ-loop : tie.MeasureT-loop
 array-read-n : tie.Need-array-read-n Inv-loop μ-loop
 array-read-n c = search needs
 
-cast-start : tie.Need-cast-start Inv-loop μ-loop
-cast-start c = search needs
-
-mul-start : tie.Need-mul-start Inv-loop μ-loop
-mul-start c = search needs
-
-add-start : tie.Need-add-start Inv-loop μ-loop
-add-start c = search needs
+width-requires : tie.Need-width-requires Inv-loop μ-loop
+width-requires c κs = search needs
 
 add-more : tie.Need-add-more Inv-loop μ-loop
 add-more c = search needs
@@ -40,9 +35,8 @@ array-write-more c = search needs
 
 loop-holds : tie.Need-loop-holds Inv-loop μ-loop
 loop-holds c =
-    let a = c .args in
-    let s = drop (a .at) (a .from .now) in
-    (omega arith, paste-zero (set (a .t1) 0 (getD (a .t1) 0 0 + 1)) (1 + getD (a .t1) 0 0 * 5) s)
+    let a = c .before .before .args in
+    (omega arith, paste-zero (set (a .t1) 0 (getD (a .t1) 0 0 + 1)) (c .width .result) (drop (a .at) (a .from .now)))
 
 add-more-2 : tie.Need-add-more-2 Inv-loop μ-loop
 add-more-2 c = search needs
@@ -65,22 +59,25 @@ loop-less c = search needs
 loop-again : tie.Need-loop-again Inv-loop μ-loop
 loop-again c =
     let l = c .before .before in
-    let a = l .before .args in (
+    let w = l .before in
+    let a = w .before .before .args in (
       omega arith,
-      paste-next _ (1 + getD (a .t1) 0 0 * 5) (a .from .now) (a .at) (l .loop .byte) _ (l .loop .inv .1)
+      paste-next _ (w .width .result) (a .from .now) (a .at) (l .loop .byte) _ (l .loop .inv .1)
           (simp length-set (search needs)) (omega arith),
     )
 
 returns : tie.Need-returns Inv-loop μ-loop
 returns c =
     let l = c .before in
-    let a = l .before .args in
+    let w = l .before in
+    let b = w .before .before in
+    let a = b .args in
     let end : l .loop .byte ≡ 5 = omega arith in
     let s = drop (a .at) (a .from .now) in
     l .loop .inv .1
-    ∙ ap (paste (set (a .t1) 0 (getD (a .t1) 0 0 + 1)) (1 + getD (a .t1) 0 0 * 5) s) end
-    ∙ put-after desk 56 (a .t1) _ s (l .before .pre .0)
-    (atom-bytes desk desk-apart (a .from .now) (a .at) (l .before .pre .1))
+    ∙ ap₂ (λ (i n : ℕ). paste (set (a .t1) 0 (getD (a .t1) 0 0 + 1)) i s n) (w .width .ensures) end
+    ∙ put-after stored recordRoom (a .t1) _ s (b .pre .0)
+    (atom-bytes stored stored-apart (a .from .now) (a .at) (b .pre .1))
 
 pub put-atom-spec : {M : Type 1} → statement M
 put-atom-spec =
@@ -89,9 +86,7 @@ put-atom-spec =
     Inv-loop
     μ-loop
     array-read-n
-    cast-start
-    mul-start
-    add-start
+    width-requires
     add-more
     array-write-more
     loop-holds

@@ -2,8 +2,8 @@
 use borrow.Author.Needs.{needs}
 use mathlib.Core.Path.{sym, ap, _∙_}
 use Rattle.covering.specs.Term.{eqAtom}
-use Rattle.covering.specs.Record.{desk}
-use Rattle.covering.specs.Buffer.{heldIn}
+use Rattle.covering.specs.Record.{stored}
+use Rattle.covering.specs.Buffer.{heldIn, recordRoom}
 use Rattle.forming.proofs.Leftward.{added-old, added-new}
 use Rattle.forming.proofs.formed.put_new.Statement.{statement}
 use Rattle.forming.proofs.formed.put_new.Tie as tie
@@ -18,7 +18,7 @@ returns : tie.Need-returns
 returns c =
     let p = c .before .before .before .before .pre in
     p .0 .holds
-    ∙ ap (heldIn desk 56) (sym (added-old eqAtom _ _ (sym (c .before .has-atom .ensures) ∙ c .if1 .taken)))
+    ∙ ap (heldIn stored recordRoom) (sym (added-old eqAtom _ _ (sym (c .before .has-atom .ensures) ∙ c .if1 .taken)))
 
 put-atom-requires : tie.Need-put-atom-requires
 put-atom-requires c κs = search needs
@@ -27,7 +27,7 @@ returns-2 : tie.Need-returns-2
 returns-2 c =
     c .put-atom .ensures
     ∙ ap
-    (heldIn desk 56)
+    (heldIn stored recordRoom)
     (sym (added-new eqAtom _ _ (sym (c .before .before .has-atom .ensures) ∙ c .before .if1 .left)))
 
 pub put-new-spec : {M : Type 1} → statement M

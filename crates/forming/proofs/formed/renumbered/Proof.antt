@@ -6,10 +6,10 @@ use mathlib.Core.Path.{_≡_, refl, ap, _∙_}
 use mathlib.Core.List.{[], _∷_, _++_}
 use Rattle.covering.specs.Term.{Question, on-question}
 use Rattle.covering.specs.Form.{numbering}
-use Rattle.covering.specs.Record.{desk, atomAt, atomsAt, questionOf}
-use Rattle.covering.specs.Buffer.{heldIn, AtomsIn}
+use Rattle.covering.specs.Record.{stored, atomAt, atomsAt, questionOf}
+use Rattle.covering.specs.Buffer.{heldIn, AtomsIn, recordRoom}
 use Rattle.covering.proofs.Within.{sound-in}
-use Rattle.covering.proofs.RoundTrip.{desk-apart}
+use Rattle.covering.proofs.RoundTrip.{stored-apart}
 use Rattle.forming.proofs.Passing.{in-next, split-done, split-in, split-next}
 use Rattle.forming.proofs.Growing.{Grows, grows-none, grows-room, grows-on, table-numbers, table-fits}
 use Rattle.forming.proofs.formed.renumbered.Statement.{statement}
@@ -17,10 +17,10 @@ use Rattle.forming.proofs.formed.renumbered.Tie as tie
 
 abbrev Inv-loop : tie.InvT-loop
 Inv-loop member table done₀ at₀ left₀ done at left =
-    AtomsIn desk member at left
+    AtomsIn stored member at left
     × ((P : Question)
-    × Grows desk 56 done (on-question (numbering (questionOf desk member)) P) left
-    × (questionOf desk member ≡ P ++ atomsAt desk member at left))
+    × Grows stored recordRoom done (on-question (numbering (questionOf stored member)) P) left
+    × (questionOf stored member ≡ P ++ atomsAt stored member at left))
 
 abbrev μ-loop : tie.MeasureT-loop
 μ-loop member table done₀ at₀ left₀ done at left = left
@@ -41,17 +41,17 @@ loop-holds : tie.Need-loop-holds Inv-loop μ-loop
 unfolding questionOf
 loop-holds c =
     let p = c .before .before .before .before .pre in
-    (sound-in desk _ p, ([], grows-none desk 56 _ _ (c .before .no-atoms .ensures) (omega (arith, p .most)), refl))
+    (sound-in stored _ p, ([], grows-none stored recordRoom _ _ (c .before .no-atoms .ensures) (omega (arith, p .most)), refl))
 
 put-on-requires : tie.Need-put-on-requires Inv-loop μ-loop
 put-on-requires c κs =
     let l = c .before in
     let s = l .loop .inv .1 in
     let some = c .loop-test .taken in
-    let here = split-in desk _ _ _ _ (s .0) (s .2) some in
+    let here = split-in stored _ _ _ _ (s .0) (s .2) some in
     let b = l .before .before .before in (
-      grows-room desk desk-apart 56 _ _ _ (s .1) some,
-      in-next desk _ _ _ (l .loop .inv .0) some .0,
+      grows-room stored stored-apart recordRoom _ _ _ (s .1) some,
+      in-next stored _ _ _ (l .loop .inv .0) some .0,
       table-fits _ (b .before .before .pre) _ (b .numbers-of .ensures) _ here,
     )
 
@@ -69,28 +69,28 @@ loop-again c =
     let l = c .before .before in
     let s = l .loop .inv .1 in
     let some = c .before .loop-test .taken in
-    let here = split-in desk _ _ _ _ (s .0) (s .2) some in
+    let here = split-in stored _ _ _ _ (s .0) (s .2) some in
     let b = l .before .before .before in
     let m = b .before .before .args .member .now in
-    let a = atomAt desk m (l .loop .at) in
+    let a = atomAt stored m (l .loop .at) in
     let p = b .before .before .pre in
     let fits = table-fits _ p _ (b .numbers-of .ensures) _ here in
     let same = table-numbers _ p _ (b .numbers-of .ensures) _ here in (
-      in-next desk _ _ _ (l .loop .inv .0) some .1,
+      in-next stored _ _ _ (l .loop .inv .0) some .1,
       (
         s .0 ++ a ∷ [],
-        grows-on desk desk-apart 56 (numbering (questionOf desk m)) _ _ _ (s .0) a _ (s .1) some same fits
+        grows-on stored stored-apart recordRoom (numbering (questionOf stored m)) _ _ _ (s .0) a _ (s .1) some same fits
             (c .put-on .ensures),
-        split-next desk _ _ _ _ (s .0) (s .2) some,
+        split-next stored _ _ _ _ (s .0) (s .2) some,
       ),
     )
 
 returns : tie.Need-returns Inv-loop μ-loop
 returns c =
     let s = c .before .loop .inv .1 in
-    let q = questionOf desk (c .before .before .before .before .before .before .args .member .now) in
+    let q = questionOf stored (c .before .before .before .before .before .before .args .member .now) in
     s .1 .bytes
-    ∙ ap (λ A. heldIn desk 56 (on-question (numbering q) A)) (split-done desk _ _ _ _ (s .0) (s .2) (omega arith))
+    ∙ ap (λ A. heldIn stored recordRoom (on-question (numbering q) A)) (split-done stored _ _ _ _ (s .0) (s .2) (omega arith))
 
 pub renumbered-spec : {M : Type 1} → statement M
 renumbered-spec =

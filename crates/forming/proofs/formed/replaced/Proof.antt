@@ -2,12 +2,17 @@
 use borrow.Author.Needs.{needs}
 use native.Mathlib.Omega.{arith}
 use mathlib.Core.Path.{sym}
+use Prim.Native.Nat.{_≤_}
+use Rattle.forming.specs.Building.{subOf}
 use Rattle.forming.proofs.AtomBytes.{variable-on, constant-on}
 use Rattle.forming.proofs.formed.replaced.Statement.{statement}
 use Rattle.forming.proofs.formed.replaced.Tie as tie
 
 returns : tie.Need-returns
-returns c = sym (constant-on _ _ (c .before .pre (c .if1 .taken)))
+returns c =
+    let a = c .before .args in
+    let is : 128 ≤ a .t = c .before .pre (c .if1 .taken) in
+    omega (arith, is, constant-on (subOf (a .t1)) (a .t) is)
 
 array-read-result : tie.Need-array-read-result
 array-read-result c = search needs

@@ -5,8 +5,8 @@ use mathlib.Core.Path.{_≡_, sym}
 use Prim.Native.Nat.{ℕ, _+_, _-_, _≤_, _<_}
 use borrow.Author.Count.{below-more}
 use lib.ListN.{getD}
-use Rattle.covering.specs.Record.{desk}
-use Rattle.covering.proofs.RoundTrip.{desk-apart}
+use Rattle.covering.specs.Record.{stored}
+use Rattle.covering.proofs.RoundTrip.{stored-apart}
 use Rattle.forming.proofs.AtomBytes.{same-bytes, other-bytes}
 use Rattle.forming.proofs.formed.same_atom.Statement.{statement}
 use Rattle.forming.proofs.formed.same_atom.Tie as tie
@@ -36,7 +36,7 @@ returns : tie.Need-returns Inv-loop μ-loop
 returns c =
     let l = c .before .before .before .before in
     let p = l .before .pre in
-    sym (other-bytes desk _ _ _ _ desk-apart (p .0) (p .1) (l .loop .j) (omega arith) (c .if1 .taken))
+    sym (other-bytes stored _ _ _ _ stored-apart (p .0) (p .1) (l .loop .j) (omega arith) (c .if1 .taken))
 
 add-j : tie.Need-add-j Inv-loop μ-loop
 add-j c = omega arith
@@ -50,7 +50,7 @@ loop-again c =
 
 returns-2 : tie.Need-returns-2 Inv-loop μ-loop
 returns-2 c =
-    sym (same-bytes desk _ _ _ _ (λ m lt. c .before .loop .inv .1 m (omega arith)))
+    sym (same-bytes stored _ _ _ _ (λ m lt. c .before .loop .inv .1 m (omega arith)))
 
 pub same-atom-spec : {M : Type 1} → statement M
 same-atom-spec =

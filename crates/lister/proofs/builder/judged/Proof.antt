@@ -1,15 +1,16 @@
 -- `lister::builder::judged` meets its contract: before the start nothing, nothing where the choice is not valid, else
 -- its rewriting.
 use borrow.Author.Needs.{needs}
+use native.Mathlib.Omega.{arith}
 use mathlib.Core.Bool.{true}
 use mathlib.Core.List.{List}
 use Prim.Native.Nat.{ℕ}
 use Rattle.lister.specs.declared.Found.{Found}
 use mathlib.Core.Path.{sym, ap, _∙_}
 use borrow.Author.Tests.{not-true, not-false}
-use Rattle.covering.specs.Record.{questionOf, desk}
+use Rattle.covering.specs.Record.{questionOf, stored}
 use Rattle.unify.specs.InBytes.{classesOf}
-use Rattle.lister.specs.Asking.{ruleOf, foundOf}
+use Rattle.lister.specs.Listing.{ruleOf, foundOf}
 use Rattle.lister.proofs.Build.{since-early}
 use Rattle.lister.proofs.Prefixes.{judged-no, judged-yes}
 use Rattle.unification.specs.Step.{move, judge}
@@ -23,8 +24,8 @@ nothing-requires c κs = search needs
 returns : tie.Need-returns
 returns c =
     let a = c .before .before .before .args in
-    let o = judge (questionOf desk (a .left)) (move 32 (ruleOf (a .book .now) (a .rule))) (tabled (classesOf (a .table))) in
-    c .nothing .ensures ∙ ap foundOf (sym (since-early (a .from) (a .number) o (c .before .if1 .taken)))
+    let o = judge (questionOf stored (a .left)) (move 32 (ruleOf (a .book .now) (a .rule))) (tabled (classesOf (a .table))) in
+    c .nothing .ensures ∙ ap foundOf (sym (since-early (a .from) (a .number) o (omega (arith, c .before .if1 .taken))))
 
 is-valid-requires : tie.Need-is-valid-requires
 is-valid-requires c κs = let pre = c .before .before .pre in (pre .1 .atoms, pre .0 .body, pre .0 .head)
@@ -39,7 +40,7 @@ returns-2 c =
     c .nothing2 .ensures
     ∙ ap foundOf
     (sym
-    (judged-no (a .from) (a .number) (questionOf desk (a .left)) (move 32 (ruleOf (a .book .now) (a .rule)))
+    (judged-no (a .from) (a .number) (questionOf stored (a .left)) (move 32 (ruleOf (a .book .now) (a .rule)))
     (tabled (classesOf (a .table))) (sym (v .ensures) ∙ not-true _ (c .before .if2 .taken))))
 
 rewriting-requires : tie.Need-rewriting-requires
@@ -55,7 +56,7 @@ returns-3 c =
     ap written (c .rewriting .ensures)
     ∙ ap foundOf
     (sym
-    (judged-yes (a .from) (a .number) (questionOf desk (a .left)) (move 32 (ruleOf (a .book .now) (a .rule)))
+    (judged-yes (a .from) (a .number) (questionOf stored (a .left)) (move 32 (ruleOf (a .book .now) (a .rule)))
     (tabled (classesOf (a .table))) (c .before .before .before .if1 .left) is-so))
 
 pub judged-spec : {M : Type 1} → statement M

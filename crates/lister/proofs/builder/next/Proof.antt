@@ -3,7 +3,7 @@
 use borrow.Author.Needs.{needs}
 use native.Mathlib.Omega.{arith}
 use mathlib.Core.Path.{ap, _∙_}
-use Rattle.lister.specs.Asking.{foundOf}
+use Rattle.lister.specs.Listing.{foundOf}
 use Rattle.lister.proofs.Asked.{start-asks, start-next}
 use Rattle.lister.proofs.builder.next.Statement.{statement}
 use Rattle.lister.proofs.builder.next.Tie as tie

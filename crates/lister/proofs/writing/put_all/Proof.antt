@@ -4,11 +4,11 @@ use native.Mathlib.Omega.{arith}
 use mathlib.Core.Path.{_≡_, refl, sym, ap, _∙_}
 use mathlib.Core.List.{_++_}
 use Rattle.covering.specs.Term.{on-question}
-use Rattle.covering.specs.Record.{desk, atomsAt, questionOf}
-use Rattle.covering.specs.Buffer.{heldIn, AtomsIn}
+use Rattle.covering.specs.Record.{stored, atomsAt, questionOf}
+use Rattle.covering.specs.Buffer.{heldIn, AtomsIn, recordRoom}
 use Rattle.forming.specs.Building.{subOf}
 use Rattle.unify.specs.InBytes.{inBook}
-use Rattle.lister.specs.Asking.{Filling}
+use Rattle.lister.specs.Listing.{Filling}
 use lib.ListN.{length}
 use borrow.Author.Needs.{needs}
 use Rattle.lister.proofs.RewritingBytes.{rest-in, first-fits, atom-on, filling-room, filling-put, put-more}
@@ -20,8 +20,8 @@ abbrev Inv-loop : tie.InvT-loop
 Inv-loop table from i n done₀ at₀ left₀ done at left =
     Filling done left
     × AtomsIn inBook from at left
-    × (questionOf desk done₀ ++ on-question (subOf table) (atomsAt desk from i n)
-    ≡ questionOf desk done ++ on-question (subOf table) (atomsAt desk from at left))
+    × (questionOf stored done₀ ++ on-question (subOf table) (atomsAt stored from i n)
+    ≡ questionOf stored done ++ on-question (subOf table) (atomsAt stored from at left))
 
 abbrev μ-loop : tie.MeasureT-loop
 μ-loop table from i n done₀ at₀ left₀ done at left = left
@@ -63,7 +63,7 @@ loop-again c =
 returns : tie.Need-returns Inv-loop μ-loop
 returns c =
     let l = c .before .loop in
-    put-none _ _ _ _ _ (l .left) (omega arith) (l .inv .0) ∙ ap (heldIn desk 56) (sym (l .inv .2))
+    put-none _ _ _ _ _ (l .left) (omega arith) (l .inv .0) ∙ ap (heldIn stored recordRoom) (sym (l .inv .2))
 
 pub put-all-spec : {M : Type 1} → statement M
 put-all-spec =

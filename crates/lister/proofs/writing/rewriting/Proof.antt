@@ -5,8 +5,8 @@ use native.Mathlib.Omega.{arith}
 use lib.ListN.{length}
 use mathlib.Core.Path.{_≡_, ap, _∙_}
 use Rattle.covering.specs.Form.{form}
-use Rattle.covering.specs.Record.{desk}
-use Rattle.covering.specs.Buffer.{heldIn}
+use Rattle.covering.specs.Record.{stored}
+use Rattle.covering.specs.Buffer.{heldIn, recordRoom}
 use Rattle.lister.proofs.RewritingBytes.{filling-none, left-filling, whole-sound, whole-question}
 use Rattle.lister.proofs.Halves.{upper-fits}
 use Rattle.lister.proofs.writing.rewriting.Statement.{statement}
@@ -67,7 +67,7 @@ returns c =
     let pre = start .pre in
     let u = c .before .before .upper-half in
     c .in-form .ensures
-    ∙ ap (λ q. heldIn desk 56 (form q))
+    ∙ ap (λ q. heldIn stored recordRoom (form q))
     (whole-question (a .t1) (a .book .now) (a .table) (u .result) (a .rule) (pre .0) (pre .1) (pre .2) (pre .3) long
     (u .ensures) _ _ _ (c .before .before .before .before .before .no-atoms .ensures)
     (c .before .before .before .put-all .ensures) (c .before .put-all2 .ensures))

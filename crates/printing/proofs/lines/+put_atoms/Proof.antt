@@ -3,7 +3,7 @@
 use borrow.Author.Needs.{needs}
 use native.Mathlib.Omega.{arith}
 use Prim.Native.Nat.{ℕ, _<_}
-use Rattle.covering.specs.Record.{desk}
+use Rattle.covering.specs.Record.{stored}
 use Rattle.covering.proofs.Places.{sound-more}
 use Rattle.printing.proofs.Putting.{put-none, put-as, then}
 use Rattle.printing.proofs.Texts.{atoms-end, atoms-next, atoms-length}
@@ -46,7 +46,7 @@ put-requires t c κs =
 put-atom-requires : (t : ℕ) → put-atoms-lts.Need-put-atom-requires (calls t) (at-measure t) put-atoms.Post
 put-atom-requires t c κs =
     let s = c .before .before .before .before .before .before .before .before .before in
-    let sound = sound-more desk (s .args .member .now) (s .args .i) (s .args .n) (omega arith) (s .pre .1 .1) in
+    let sound = sound-more stored (s .args .member .now) (s .args .i) (s .args .n) (omega arith) (s .pre .1 .1) in
     let long = atoms-length (s .args .member .now) (s .args .i) (s .args .n) (omega arith) in
     (omega arith, sound .0, omega arith)
 
@@ -59,7 +59,7 @@ sub-put-atoms t c = search needs
 put-atoms-requires : (t : ℕ) → put-atoms-lts.Need-put-atoms-requires (calls t) (at-measure t) put-atoms.Post
 put-atoms-requires t c κs =
     let s = c .before .before .before .before .before .before .before .before .before .before .before .before .before in
-    let sound = sound-more desk (s .args .member .now) (s .args .i) (s .args .n) (omega arith) (s .pre .1 .1) in
+    let sound = sound-more stored (s .args .member .now) (s .args .i) (s .args .n) (omega arith) (s .pre .1 .1) in
     let long = atoms-length (s .args .member .now) (s .args .i) (s .args .n) (omega arith) in
     (omega arith, (omega arith, sound .1, omega arith))
 

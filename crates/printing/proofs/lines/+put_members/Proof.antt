@@ -4,15 +4,15 @@ use borrow.Author.Needs.{needs}
 use native.Mathlib.Omega.{arith}
 use mathlib.Core.Path.{_≡_, sym, _∙_, ap, subst}
 use mathlib.Core.List.{_++_}
-use Prim.Native.Nat.{ℕ, _+_, _-_, _≤_, _<_}
+use Prim.Native.Nat.{ℕ, _+_, _-_, _<_}
 use lib.ListN.{length}
 use Rattle.covering.specs.Lists.{gather}
-use Rattle.covering.specs.Record.{desk, questionOf}
+use Rattle.covering.specs.Record.{stored, width, atomsAt}
 use Rattle.exploration.specs.Union.{membersFrom, memberEnd}
-use Rattle.exploration.specs.Standing.{Standing}
+use Rattle.exploration.specs.Standing.{MemberAt, WrittenAt}
+use Rattle.reading.specs.Word.{byte}
 use Rattle.printing.specs.Printed.{memberLine}
-use Rattle.printing.proofs.Texts.{part, members-end, members-next, members-length, stands-first, stands-rest}
-use Rattle.printing.proofs.Texts.{stands-within}
+use Rattle.printing.proofs.Texts.{members-end, members-next, members-length, first-stands}
 use Rattle.printing.proofs.Putting.{put-none, put-as, then}
 use borrow.Fn.Kinds.{In}
 use borrow.Fn.PlainCycle.{Measures, is, falls, and}
@@ -35,81 +35,98 @@ below t = and 2 put-members-kinds.ps (falls 2 put-members-kinds.ps _<_ μ-put-me
 
 -- what is asked of and learnt from what it calls
 abbrev calls : ℕ → put-members-lts.Claims
-calls t = (width-reads.Asked, width-reads.Learnt, put-member-reads.Asked, put-member-reads.Learnt, below t, put-members.Post)
+calls t = (put-member-reads.Asked, put-member-reads.Learnt, width-reads.Asked, width-reads.Learnt, below t, put-members.Post)
 
-returns : (t : ℕ) → put-members-lts.Need-returns (calls t) (at-measure t) put-members.Post
-returns t c =
-    let a = c .before .before .before .args in
-    put-as (members-end (a .output .now) (a .i) (a .n) (c .if1 .taken)) (put-none (omega arith))
+module _ (t : ℕ) where
+  abbrev Begins : Type 0
+  Begins = put-members-lts.Start (calls t) (at-measure t) put-members.Post
 
--- the first member is within the output
-within : (t : ℕ) (s : put-members-lts.Start (calls t) (at-measure t) put-members.Post) → 0 < s .args .n
-    → memberEnd (s .args .output .now) (s .args .i) ≤ length (s .args .output .now)
-within t s h = stands-within (s .args .output .now) (s .args .i) (s .args .n) h (s .pre .1 .0)
+  returns : put-members-lts.Need-returns (calls t) (at-measure t) put-members.Post
+  returns c =
+      let a = c .before .before .before .args in
+      put-as (members-end (a .answers) (a .output .now) (a .i) (a .n) (c .if1 .taken)) (put-none (omega arith))
 
-shared-slice-read-width : (t : ℕ)
-    → put-members-lts.Need-shared-slice-read-width (calls t) (at-measure t) put-members.Post
-shared-slice-read-width t c = let s = c .before .before .before .before in omega (arith, within t s (omega arith))
+  -- the first member, and the others
+  there : (s : Begins) → 0 < s .args .n
+      → MemberAt (s .args .answers) (s .args .output .now) (s .args .i)
+      × WrittenAt (s .args .answers) (s .args .output .now) (memberEnd (s .args .answers) (s .args .output .now) (s .args .i))
+      (s .args .n - 1)
+  there s h = first-stands (s .args .answers) (s .args .output .now) (s .args .i) (s .args .n) h (s .pre .1 .0)
 
-width-requires : (t : ℕ) → put-members-lts.Need-width-requires (calls t) (at-measure t) put-members.Post
-width-requires t c κs = search needs
+  -- its line and those after it
+  long : (s : Begins) → 0 < s .args .n
+      → length (gather memberLine (membersFrom (s .args .answers) (s .args .output .now) (s .args .i) (s .args .n)))
+      ≡ length (memberLine (atomsAt stored (s .args .output .now) (s .args .i + 1)
+      (s .args .answers + byte (s .args .output .now) (s .args .i))))
+      + length (gather memberLine (membersFrom (s .args .answers) (s .args .output .now)
+      (memberEnd (s .args .answers) (s .args .output .now) (s .args .i)) (s .args .n - 1)))
+  long s h = members-length (s .args .answers) (s .args .output .now) (s .args .i) (s .args .n) h
 
-add-next : (t : ℕ) → put-members-lts.Need-add-next (calls t) (at-measure t) put-members.Post
-add-next t c =
-    let s = c .before .before .before .before .before in omega (arith, c .width .ensures, within t s (omega arith))
+  shared-slice-read-count : put-members-lts.Need-shared-slice-read-count (calls t) (at-measure t) put-members.Post
+  shared-slice-read-count c =
+      let s = c .before .before .before .before in omega (arith, there s (omega arith) .0 .atoms .fits)
 
-sub-member : (t : ℕ) → put-members-lts.Need-sub-member (calls t) (at-measure t) put-members.Post
-sub-member t c = let s = c .before .before .before .before .before in omega (arith, within t s (omega arith))
+  add-put-member : put-members-lts.Need-add-put-member (calls t) (at-measure t) put-members.Post
+  add-put-member c =
+      let s = c .before .before .before .before .before in omega (arith, there s (omega arith) .0 .atoms .fits)
 
-part-member-start : (t : ℕ) → put-members-lts.Need-part-member-start (calls t) (at-measure t) put-members.Post
-part-member-start t c = let s = c .before .before .before .before .before in omega (arith, within t s (omega arith))
+  put-member-requires : put-members-lts.Need-put-member-requires (calls t) (at-measure t) put-members.Post
+  put-member-requires c κs =
+      let s = c .before .before .before .before .before in
+      let m = there s (omega arith) .0 in
+      (m .atoms, m .is, omega (arith, m .most), omega (arith, long s (omega arith)))
 
-part-member-end : (t : ℕ) → put-members-lts.Need-part-member-end (calls t) (at-measure t) put-members.Post
-part-member-end t c = let s = c .before .before .before .before .before in omega (arith, within t s (omega arith))
+  -- the function's start, from after the width
+  abbrev begins : put-members-lts.After-width (calls t) (at-measure t) put-members.Post → Begins
+  begins c = c .before .before .before .before .before .before .before .before .before .before
 
-put-member-requires : (t : ℕ) → put-members-lts.Need-put-member-requires (calls t) (at-measure t) put-members.Post
-put-member-requires t c κs =
-    let s = c .before .before .before .before .before .before .before in
-    let long = members-length (s .args .output .now) (s .args .i) (s .args .n) (omega arith) in
-    (stands-first (s .args .output .now) (s .args .i) (s .args .n) (omega arith) (s .pre .1 .0), omega arith)
+  add-width : put-members-lts.Need-add-width (calls t) (at-measure t) put-members.Post
+  add-width c =
+      let s = c .before .before .before .before .before .before .before .before .before in
+      omega (arith, there s (omega arith) .0 .most)
 
-sub-put-members : (t : ℕ) → put-members-lts.Need-sub-put-members (calls t) (at-measure t) put-members.Post
-sub-put-members t c = search needs
+  width-requires : put-members-lts.Need-width-requires (calls t) (at-measure t) put-members.Post
+  width-requires c κs = search needs
 
-put-members-requires : (t : ℕ) → put-members-lts.Need-put-members-requires (calls t) (at-measure t) put-members.Post
-put-members-requires t c κs =
-    let w = c .before .before .before .before .before .before in
-    let s = w .before .before .before .before .before in
-    let W = s .args .output .now in
-    let i = s .args .i in
-    let n = s .args .n in
-    let some : 0 < n = omega arith in
-    let next =
-    subst
-    (λ (k : ℕ).
-    Standing W (i + k) (n - 1)
-    × (length (gather memberLine (membersFrom W i n))
-    ≡ length (memberLine (questionOf desk (part W i))) + length (gather memberLine (membersFrom W (i + k) (n - 1)))))
-    (sym (w .width .ensures)) (stands-rest W i n some (s .pre .1 .0), members-length W i n some) in
-    (omega arith, (next .0, omega (arith, next .1)))
+  add-put-members : put-members-lts.Need-add-put-members (calls t) (at-measure t) put-members.Post
+  add-put-members c = omega (arith, c .width .ensures, there (begins c) (omega arith) .0 .atoms .fits)
 
-same-length : (t : ℕ) → put-members-lts.Need-same-length (calls t) (at-measure t) put-members.Post
-same-length t c = search needs
+  sub-put-members : put-members-lts.Need-sub-put-members (calls t) (at-measure t) put-members.Post
+  sub-put-members c = search needs
 
-returns-2 : (t : ℕ) → put-members-lts.Need-returns-2 (calls t) (at-measure t) put-members.Post
-returns-2 t c =
-    let second = c .before .before in
-    let first = second .before .before .before .before in
-    let w = first .before .before .before in
-    let s = w .before .before .before .before .before in
-    let W = s .args .output .now in
-    let i = s .args .i in
-    let n = s .args .n in
-    put-as
-    (members-next W i n (omega arith)
-    ∙ ap (λ (k : ℕ). memberLine (questionOf desk (part W i)) ++ gather memberLine (membersFrom W (i + k) (n - 1)))
-    (sym (w .width .ensures)))
-    (then (first .put-member .ensures) (second .put-members .ensures))
+  put-members-requires : put-members-lts.Need-put-members-requires (calls t) (at-measure t) put-members.Post
+  put-members-requires c κs =
+      let s = begins c in
+      let a = s .args in
+      let W = a .output .now in
+      let next =
+      subst
+      (λ (k : ℕ).
+      WrittenAt (a .answers) W (a .i + k) (a .n - 1)
+      × (length (gather memberLine (membersFrom (a .answers) W (a .i) (a .n)))
+      ≡ length (memberLine (atomsAt stored W (a .i + 1) (a .answers + byte W (a .i))))
+      + length (gather memberLine (membersFrom (a .answers) W (a .i + k) (a .n - 1)))))
+      (sym (c .width .ensures)) (there s (omega arith) .1, long s (omega arith)) in
+      (omega arith, (next .0, omega (arith, next .1)))
+
+  same-length : put-members-lts.Need-same-length (calls t) (at-measure t) put-members.Post
+  same-length c = search needs
+
+  returns-2 : put-members-lts.Need-returns-2 (calls t) (at-measure t) put-members.Post
+  returns-2 c =
+      let second = c .before .before in
+      let w = second .before in
+      let first = w .before .before .before .before in
+      let a = begins w .args in
+      let W = a .output .now in
+      put-as
+      (members-next (a .answers) W (a .i) (a .n) (omega arith)
+      ∙ ap
+      (λ (k : ℕ).
+      memberLine (atomsAt stored W (a .i + 1) (a .answers + byte W (a .i)))
+      ++ gather memberLine (membersFrom (a .answers) W (a .i + k) (a .n - 1)))
+      (sym (w .width .ensures)))
+      (then (first .put-member .ensures) (second .put-members .ensures))
 
 pub +put-members-spec : {M : Type 1} → statement M
 +put-members-spec =
@@ -120,13 +137,12 @@ pub +put-members-spec : {M : Type 1} → statement M
     (at-measure t)
     put-members.Post
     (returns t)
-    (shared-slice-read-width t)
-    (width-requires t)
-    (add-next t)
-    (sub-member t)
-    (part-member-start t)
-    (part-member-end t)
+    (shared-slice-read-count t)
+    (add-put-member t)
     (put-member-requires t)
+    (add-width t)
+    (width-requires t)
+    (add-put-members t)
     (sub-put-members t)
     (put-members-requires t)
     (same-length t)

@@ -1,45 +1,34 @@
--- `printing::lines::put_member` meets its contract: the first atom, the others, the end of the line.
+-- `printing::lines::put_member` meets its contract.
 use borrow.Author.Needs.{needs}
 use native.Mathlib.Omega.{arith}
-use lib.ListN.{getD}
-use Rattle.covering.specs.Record.{desk}
-use Rattle.covering.proofs.Places.{sound-more}
 use Rattle.printing.proofs.Putting.{put-as, then}
 use Rattle.printing.proofs.Texts.{member-text, member-length}
 use Rattle.printing.proofs.lines.put_member.Statement.{statement}
 use Rattle.printing.proofs.lines.put_member.Tie as tie
 
-shared-slice-read-n : tie.Need-shared-slice-read-n
-shared-slice-read-n c = search needs
+add-put-all : tie.Need-add-put-all
+add-put-all c = omega (arith, c .before .before .before .pre .2)
 
-cast-n : tie.Need-cast-n
-cast-n c = search needs
+cast-put-all : tie.Need-cast-put-all
+cast-put-all c = omega (arith, c .before .before .before .pre .2)
 
-put-atom-requires : tie.Need-put-atom-requires
-put-atom-requires c κs =
-    let s = c .before .before .before .before in
-    let B = s .args .member .now in
-    let sound = sound-more desk B 1 (getD B 0 0) (omega arith) (s .pre .0 .atoms) in
-    (omega arith, sound .0, omega (arith, member-length B (s .pre .0)))
+put-all-requires : tie.Need-put-all-requires
+put-all-requires c κs =
+    let s = c .before .before .before in
+    (s .pre .0, omega (arith, member-length _ (s .pre .1)))
 
-sub-put-atoms : tie.Need-sub-put-atoms
-sub-put-atoms c = search needs
-
-put-atoms-requires : tie.Need-put-atoms-requires
-put-atoms-requires c κs =
-    let s = c .before .before .before .before .before .before .before .before in
-    let B = s .args .member .now in
-    let sound = sound-more desk B 1 (getD B 0 0) (omega arith) (s .pre .0 .atoms) in
-    (omega arith, sound .1, omega (arith, member-length B (s .pre .0)))
+put-always-requires : tie.Need-put-always-requires
+put-always-requires c κs =
+    let s = c .before .before .before .before .before .before .before in
+    omega (arith, member-length _ (s .pre .1))
 
 slice-aggregate-put : tie.Need-slice-aggregate-put
 slice-aggregate-put c = search needs
 
 put-requires : tie.Need-put-requires
 put-requires c κs =
-    let s = c .before .before .before .before .before .before .before .before .before .before .before .before .before in
-    let B = s .args .member .now in
-    omega (arith, member-length B (s .pre .0))
+    let s = c .before .before .before .before .before .before .before .before .before .before .before .before in
+    omega (arith, member-length _ (s .pre .1))
 
 same-length : tie.Need-same-length
 same-length c = search needs
@@ -49,19 +38,18 @@ returns c =
     let third = c .before .before in
     let second = third .before .before .before .before .before in
     let first = second .before .before .before .before in
-    let s = first .before .before .before .before .before in
-    put-as (member-text (s .args .member .now) (s .pre .0))
-    (then (then (first .put-atom .ensures) (second .put-atoms .ensures)) (third .put .ensures))
+    let s = first .before .before .before .before in
+    put-as (member-text _ (s .pre .1))
+    (then (first .put-all .ensures) (then (second .put-always .ensures) (third .put .ensures)))
 
 pub put-member-spec : {M : Type 1} → statement M
 put-member-spec =
     tie.close
     (tie.spec
-    shared-slice-read-n
-    cast-n
-    put-atom-requires
-    sub-put-atoms
-    put-atoms-requires
+    add-put-all
+    cast-put-all
+    put-all-requires
+    put-always-requires
     slice-aggregate-put
     put-requires
     same-length

@@ -3,7 +3,7 @@
 use borrow.Author.Needs.{needs}
 use native.Mathlib.Omega.{arith}
 use mathlib.Core.Path.{refl, sym, _∙_}
-use Rattle.covering.specs.Record.{desk}
+use Rattle.covering.specs.Record.{stored}
 use Rattle.covering.proofs.Bytes.{atom-used}
 use Rattle.unify.specs.InBytes.{inBook}
 use Rattle.unify.proofs.TableBytes.{joined-no}
@@ -18,7 +18,7 @@ shared-slice-read-if1-2 : tie.Need-shared-slice-read-if1-2
 shared-slice-read-if1-2 c = search needs
 
 returns : tie.Need-returns
-returns c = joined-no _ refl ∙ sym (pairs-apart desk _ _ _ _ _ (c .if1 .taken))
+returns c = joined-no _ refl ∙ sym (pairs-apart stored _ _ _ _ _ (c .if1 .taken))
 
 add-join-places : tie.Need-add-join-places
 add-join-places c = search needs
@@ -30,7 +30,7 @@ join-places-requires : tie.Need-join-places-requires
 join-places-requires c κs = (omega arith, omega arith, atom-used inBook _ _ (c .before .before .before .before .before .pre .2))
 
 returns-2 : tie.Need-returns-2
-returns-2 c = c .join-places .ensures ∙ sym (pairs-meet desk _ _ _ _ _ (c .before .if1 .left))
+returns-2 c = c .join-places .ensures ∙ sym (pairs-meet stored _ _ _ _ _ (c .before .if1 .left))
 
 pub join-atoms-spec : {M : Type 1} → statement M
 join-atoms-spec =

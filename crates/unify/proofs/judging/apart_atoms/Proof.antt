@@ -5,7 +5,7 @@ use mathlib.Core.Path.{_≡_, refl, sym, _∙_}
 use borrow.Author.Tests.{not-true, not-false}
 use Rattle.covering.specs.Lists.{all}
 use Rattle.covering.specs.Term.{on-question, terms}
-use Rattle.covering.specs.Record.{desk, atomsAt}
+use Rattle.covering.specs.Record.{stored, atomsAt}
 use Rattle.covering.specs.Buffer.{AtomsIn}
 use Rattle.covering.proofs.Bytes.{atom-used}
 use Rattle.covering.proofs.Places.{sound-more}
@@ -19,8 +19,8 @@ use Rattle.unify.proofs.judging.apart_atoms.Tie as tie
 abbrev Inv-loop : tie.InvT-loop
 Inv-loop s i n shift z rep table at₀ more₀ at more =
     AtomsIn inBook s at more
-    × (all (apartByte table z rep) (terms (on-question (up shift) (atomsAt desk s i n)))
-    ≡ all (apartByte table z rep) (terms (on-question (up shift) (atomsAt desk s at more))))
+    × (all (apartByte table z rep) (terms (on-question (up shift) (atomsAt stored s i n)))
+    ≡ all (apartByte table z rep) (terms (on-question (up shift) (atomsAt stored s at more))))
 
 abbrev μ-loop : tie.MeasureT-loop
 μ-loop s i n shift z rep table at₀ more₀ at more = more
@@ -42,7 +42,7 @@ returns c =
     let a = l .before .before .args in
     sym
     (l .loop .inv .1
-    ∙ each-term-fails (apartByte (a .table) (a .z) (a .rep)) desk _ _ _ _ (omega arith)
+    ∙ each-term-fails (apartByte (a .table) (a .z) (a .rep)) stored _ _ _ _ (omega arith)
     (c .before .apart-places .ensures) (not-true _ (c .if1 .taken)))
 
 add-at : tie.Need-add-at Inv-loop μ-loop
@@ -60,14 +60,14 @@ loop-again c =
     let a = l .before .before .args in (
       record { fits = omega arith; sound = sound-more inBook _ _ _ (omega arith) (l .loop .inv .0 .sound) .1 },
       l .loop .inv .1
-          ∙ each-term-passes (apartByte (a .table) (a .z) (a .rep)) desk _ _ _ _ (omega arith)
+          ∙ each-term-passes (apartByte (a .table) (a .z) (a .rep)) stored _ _ _ _ (omega arith)
           (c .before .apart-places .ensures) (not-false _ (c .if1 .left)),
     )
 
 returns-2 : tie.Need-returns-2 Inv-loop μ-loop
 returns-2 c =
     let a = c .before .before .before .args in
-    sym (c .before .loop .inv .1 ∙ each-term-none (apartByte (a .table) (a .z) (a .rep)) desk _ _ _ _ (omega arith))
+    sym (c .before .loop .inv .1 ∙ each-term-none (apartByte (a .table) (a .z) (a .rep)) stored _ _ _ _ (omega arith))
 
 pub apart-atoms-spec : {M : Type 1} → statement M
 apart-atoms-spec =

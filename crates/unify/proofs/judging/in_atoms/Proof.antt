@@ -5,7 +5,7 @@ use mathlib.Core.Path.{_≡_, refl, sym, _∙_}
 use Prim.Native.Nat.{_+_, _*_, _≤_}
 use lib.ListN.{length}
 use Rattle.covering.specs.Term.{terms}
-use Rattle.covering.specs.Record.{desk, termOf, atomsAt}
+use Rattle.covering.specs.Record.{stored, termOf, atomsAt}
 use Rattle.unification.specs.Step.{memTerm}
 use Rattle.unify.proofs.EachTerm.{some-term-none, some-term-hit, some-term-miss}
 use Rattle.unify.proofs.judging.in_atoms.Statement.{statement}
@@ -14,7 +14,7 @@ use Rattle.unify.proofs.judging.in_atoms.Tie as tie
 abbrev Inv-loop : tie.InvT-loop
 Inv-loop s i n t at₀ more₀ at more =
     (at + more * 5 ≤ length s)
-    × (memTerm (termOf t) (terms (atomsAt desk s i n)) ≡ memTerm (termOf t) (terms (atomsAt desk s at more)))
+    × (memTerm (termOf t) (terms (atomsAt stored s i n)) ≡ memTerm (termOf t) (terms (atomsAt stored s at more)))
 
 abbrev μ-loop : tie.MeasureT-loop
 μ-loop s i n t at₀ more₀ at more = more
@@ -32,7 +32,7 @@ returns : tie.Need-returns Inv-loop μ-loop
 returns c =
     sym
     (c .before .before .before .loop .inv .1
-    ∙ some-term-hit _ desk _ _ _ (omega arith) (c .before .in-places .ensures) (c .if1 .taken))
+    ∙ some-term-hit _ stored _ _ _ (omega arith) (c .before .in-places .ensures) (c .if1 .taken))
 
 add-at : tie.Need-add-at Inv-loop μ-loop
 add-at c = omega arith
@@ -47,11 +47,11 @@ loop-again : tie.Need-loop-again Inv-loop μ-loop
 loop-again c = (
   omega arith,
   c .before .before .before .loop .inv .1
-      ∙ some-term-miss _ desk _ _ _ (omega arith) (c .before .in-places .ensures) (c .if1 .left),
+      ∙ some-term-miss _ stored _ _ _ (omega arith) (c .before .in-places .ensures) (c .if1 .left),
 )
 
 returns-2 : tie.Need-returns-2 Inv-loop μ-loop
-returns-2 c = sym (c .before .loop .inv .1 ∙ some-term-none _ desk _ _ _ (omega arith))
+returns-2 c = sym (c .before .loop .inv .1 ∙ some-term-none _ stored _ _ _ (omega arith))
 
 pub in-atoms-spec : {M : Type 1} → statement M
 in-atoms-spec =

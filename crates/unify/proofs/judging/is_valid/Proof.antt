@@ -6,7 +6,7 @@ use mathlib.Core.Path.{_≡_, refl, sym, _∙_, ap}
 use borrow.Author.Tests.{not-true, not-false}
 use Rattle.covering.specs.Lists.{all}
 use Rattle.covering.specs.Term.{Question, on-question, terms}
-use Rattle.covering.specs.Record.{desk, atomsAt, questionOf}
+use Rattle.covering.specs.Record.{stored, atomsAt, questionOf}
 use Rattle.covering.specs.Buffer.{AtomsIn}
 use Rattle.covering.proofs.Bytes.{atom-used}
 use Rattle.covering.proofs.Places.{sound-more, question-at}
@@ -21,10 +21,10 @@ use Rattle.unify.proofs.judging.is_valid.Tie as tie
 abbrev Inv-loop : tie.InvT-loop
 Inv-loop book body bodies head heads table left at₀ more₀ at more =
     AtomsIn inBook book at more
-    × (valid (tabled (classesOf table)) (questionOf desk left) (move 32 (ruleIn book body bodies head heads))
+    × (valid (tabled (classesOf table)) (questionOf stored left) (move 32 (ruleIn book body bodies head heads))
     ≡ all
     (allowedByte left book body bodies head heads table)
-    (terms (on-question (up 32) (atomsAt desk book at more))))
+    (terms (on-question (up 32) (atomsAt stored book at more))))
 
 abbrev μ-loop : tie.MeasureT-loop
 μ-loop book body bodies head heads table left at₀ more₀ at more = more
@@ -34,7 +34,7 @@ unfolding ruleIn
 loop-holds c =
     let a = c .before .args in
     let r = move 32 (ruleIn (a .book .now) (a .body) (a .bodies) (a .head) (a .heads)) in
-    (c .before .pre .2, ap (λ (L : Question). valid (tabled (classesOf (a .table))) L r) (question-at desk (a .t1) refl))
+    (c .before .pre .2, ap (λ (L : Question). valid (tabled (classesOf (a .table))) L r) (question-at stored (a .t1) refl))
 
 slice-aggregate-allowed-places : tie.Need-slice-aggregate-allowed-places Inv-loop μ-loop
 slice-aggregate-allowed-places c = search needs
@@ -53,7 +53,7 @@ returns : tie.Need-returns Inv-loop μ-loop
 returns c =
     sym
     (c .before .before .before .before .loop .inv .1
-    ∙ each-term-fails _ desk _ _ _ _ (omega arith)
+    ∙ each-term-fails _ stored _ _ _ _ (omega arith)
     (c .before .allowed-places .ensures) (not-true _ (c .if1 .taken)))
 
 add-at : tie.Need-add-at Inv-loop μ-loop
@@ -70,12 +70,12 @@ loop-again c =
     let l = c .before .before .before .before .loop in (
       record { fits = omega arith; sound = sound-more inBook _ _ _ (omega arith) (l .inv .0 .sound) .1 },
       l .inv .1
-          ∙ each-term-passes _ desk _ _ _ _ (omega arith)
+          ∙ each-term-passes _ stored _ _ _ _ (omega arith)
           (c .before .allowed-places .ensures) (not-false _ (c .if1 .left)),
     )
 
 returns-2 : tie.Need-returns-2 Inv-loop μ-loop
-returns-2 c = sym (c .before .loop .inv .1 ∙ each-term-none _ desk _ _ _ _ (omega arith))
+returns-2 c = sym (c .before .loop .inv .1 ∙ each-term-none _ stored _ _ _ _ (omega arith))
 
 pub is-valid-spec : {M : Type 1} → statement M
 is-valid-spec =

@@ -9,12 +9,13 @@ use lib.Dec.{T}
 use lib.ListN.{length, getD, replicate}
 use Rattle.covering.specs.Lists.{_∈_}
 use Rattle.covering.specs.Term.{Term, Question}
-use Rattle.covering.specs.Record.{desk, questionOf, areAtoms, TermFits}
-use Rattle.covering.specs.Buffer.{heldIn, AtomsIn}
+use Rattle.covering.specs.Record.{stored, questionOf, areAtoms, TermFits}
+use Rattle.covering.specs.Buffer.{heldIn, AtomsIn, recordRoom}
 use Rattle.covering.specs.Rule.{Rule}
 use Rattle.book.specs.declared.Parts.{Parts}
 use Rattle.lister.specs.declared.Found.{Found}
-use Rattle.unification.specs.Choice.{count, mostChoices}
+use Rattle.lister.specs.Counts.{mostChoices}
+use Rattle.unification.specs.Choice.{count}
 use Rattle.unify.specs.InBytes.{inBook, ruleIn, classesOf}
 
 -- the rule of these parts
@@ -23,37 +24,36 @@ ruleOf B p = ruleIn B (p .body) (p .bodies) (p .head) (p .heads)
 
 -- what an answer holds: the choice's number and its rewriting as a record, or nothing
 abbrev pub foundOf : Option (ℕ × Question) → Found
-foundOf none = record { found = false; choice = 0; rewriting = replicate 56 255 }
-foundOf (some e) = record { found = true; choice = e .0; rewriting = heldIn desk 56 (e .1) }
+foundOf none = record { found = false; choice = 0; rewriting = replicate recordRoom 255 }
+foundOf (some e) = record { found = true; choice = e .0; rewriting = heldIn stored recordRoom (e .1) }
 
--- a rule of a sound book: sound atoms, one to four in its head and no more in its body
+-- a rule of a sound book: sound atoms, one to four in its head and at most four in its body
 pub record RuleIn (B : List ℕ) (p : Parts) : Type 0 where
   pub body : AtomsIn inBook B (p .body) (p .bodies)
   pub head : AtomsIn inBook B (p .head) (p .heads)
-  pub some-body : 1 ≤ p .bodies
   pub few-body : p .bodies ≤ 4
   pub some-head : 1 ≤ p .heads
   pub few-head : p .heads ≤ 4
 
--- a question of at most eight sound atoms
+-- a question of at most eight sound atoms and an answer record
 pub record QuestionIn (Q : List ℕ) : Type 0 where
   pub atoms : AtomsIn inBook Q 1 (getD Q 0 0)
-  pub few : getD Q 0 0 ≤ 8
+  pub few : getD Q 0 0 ≤ 9
 
 -- the atoms left so far, a record under construction
 pub record LeftIn (A : List ℕ) : Type 0 where
-  pub holds : A ≡ heldIn desk 56 (questionOf desk A)
+  pub holds : A ≡ heldIn stored recordRoom (questionOf stored A)
   pub atoms : AtomsIn inBook A 1 (getD A 0 0)
 
 -- what stands for a class fits a record
 abbrev pub ClassesFit : List ℕ → Type 0
-ClassesFit table = (t : Term) → t ∈ classesOf table → TermFits desk t
+ClassesFit table = (t : Term) → t ∈ classesOf table → TermFits stored t
 
 -- a record under construction, with room for n atoms more
 pub record Filling (A : List ℕ) (n : ℕ) : Type 0 where
-  pub holds : A ≡ heldIn desk 56 (questionOf desk A)
-  pub atoms : T (areAtoms desk A 1 (getD A 0 0))
-  pub room : getD A 0 0 + n ≤ 11
+  pub holds : A ≡ heldIn stored recordRoom (questionOf stored A)
+  pub atoms : T (areAtoms stored A 1 (getD A 0 0))
+  pub room : getD A 0 0 + n ≤ 12
 
 -- what stands for the rule's variables, moved down again
 pub record UpperHalf (table upper : List ℕ) : Type 0 where
@@ -62,13 +62,13 @@ pub record UpperHalf (table upper : List ℕ) : Type 0 where
   pub size : length upper ≡ length table
 
 -- what the builder is given: the `more` atoms of Q from i on are to get a digit; the choice's number so far; whether
--- some atom was sent; the atoms left and the classes so far. There is room: eight atoms in all, and one less once one
+-- some atom was sent; the atoms left and the classes so far. There is room: nine atoms in all, and one less once one
 -- was sent.
 pub record Asks (Q B : List ℕ) (p : Parts) (i more number : ℕ) (sent : Bool) (A table : List ℕ) : Type 0 where
   pub atoms : AtomsIn inBook Q i more
   pub rule : RuleIn B p
   pub left : LeftIn A
-  pub few : getD A 0 0 + more ≤ 8
-  pub fewer : sent ≡ true → getD A 0 0 + more ≤ 7
+  pub few : getD A 0 0 + more ≤ 9
+  pub fewer : sent ≡ true → getD A 0 0 + more ≤ 8
   pub small : suc number * count (p .heads) more ≤ mostChoices
   pub classes : ClassesFit table

@@ -3,8 +3,8 @@ use borrow.Author.Needs.{needs}
 use mathlib.Core.Path.{ap₂}
 use mathlib.Core.Bool.{_&&_}
 use Rattle.reading.specs.Verdict.{inTable}
-use Rattle.book.proofs.judge.in_table.Statement.{statement}
-use Rattle.book.proofs.judge.in_table.Tie as tie
+use Rattle.book.proofs.header.in_table.Statement.{statement}
+use Rattle.book.proofs.header.in_table.Tie as tie
 
 within-requires : tie.Need-within-requires
 within-requires c κs = search needs
