@@ -31,7 +31,7 @@ unfolding more-examples covers firstMap findMap form step listed rewritings admi
     inTable offsetsRight wrongPlaces ruleRight wrongRule wrongPlace wrongInAtom wrongInAtoms wrongInRules usedPlaces
     wrongAnswer wrongInQuestion wrongByte looseFrom looseVariable contents verdict total unionBytes result
 more-examples-hold =
-    (ok, (ok, (ok, (ok, (ok, (ok, (ok, (ok, (ok, (ok, (ok, (ok, (ok, (ok, (ok, (ok, (ok, (ok, (ok, (ok, (ok, (ok, (ok, (ok, tt))))))))))))))))))))))))
+    (ok, (ok, (ok, (ok, (ok, (ok, (ok, (ok, (ok, (ok, (ok, (ok, (ok, (ok, (ok, (ok, (ok, (ok, (ok, (ok, (ok, (ok, (ok, (ok, (ok, tt)))))))))))))))))))))))))
 
 pub contract-gives : (e : BookExample) → Right (answering e) → {n p : ℕ} {after : List ℕ}
     → Answers (e .book) (outputOf e) n p after → ((n, p) ≡ e .answer) × (take (length (e .bytes)) after ≡ e .bytes)

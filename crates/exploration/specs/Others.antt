@@ -175,6 +175,16 @@ known = answered (bookBytes (ones 1) 0 10 (known-rule ∷ []) (at1 0 v0 ∷ []))
 abbrev pub known-once : BookExample
 known-once = answered (bookBytes (ones 1) 0 1 (known-rule ∷ []) (at1 0 v0 ∷ [])) (10, 1) untouched
 
+-- p1(x) to p0(x), p2(x) to p1(x), p3(x) to p2(x) and the rule to p3(x), question p0(v0): everything follows from a fact.
+-- Each step is a member until the last, which covers them all and has no atoms.
+abbrev pub known-chain : BookExample
+known-chain =
+    answered
+    (bookBytes (ones 4) 0 10
+    (map (λ i. rule (at1 (1 + i) v0 ∷ []) (at1 i v0 ∷ [])) (numbers 0 3) ++ rule [] (at1 3 v0 ∷ []) ∷ [])
+    (at1 0 v0 ∷ []))
+    (0, 9) (1 ∷ 0 ∷ 5 ∷ 0 ∷ 8 ∷ 0 ∷ 9 ∷ 0 ∷ 0 ∷ untouched)
+
 -- the rule to p0(c0), question a(v0) p0(v0): a(c0) without atoms is a member, and has only a constant to answer
 abbrev pub known-which : BookExample
 known-which =
@@ -216,6 +226,7 @@ more-examples =
     ∷ answering loose
     ∷ answering known
     ∷ answering known-once
+    ∷ answering known-chain
     ∷ answering known-which
     ∷ answering short-output
     ∷ answering no-book
