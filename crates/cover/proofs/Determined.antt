@@ -3,6 +3,7 @@
 use mathlib.Core.Path.{_≡_, sym, _∙_}
 use denote.Ref.{now, ptr}
 use Rattle.cover.proofs.desk.covers.Reads as covers-reads
+use Rattle.cover.proofs.desk.kept.Reads as kept-reads
 use Rattle.cover.proofs.desk.keep.Reads as keep-reads
 use Rattle.cover.proofs.search.covers_sound.Reads as covers-sound-reads
 use Rattle.cover.proofs.search.covers_on.Reads as covers-on-reads
@@ -10,6 +11,10 @@ use Rattle.cover.proofs.search.covers_on.Reads as covers-on-reads
 pub covers-determined : (κs : _) (a : _) (r s : _) (x y : _) → covers-reads.Learnt κs a r x
     → covers-reads.Learnt κs a s y → r ≡ s
 covers-determined κs a r s x y p q = p ∙ sym q
+
+pub kept-determined : (κs : _) (a : _) (r s : _) (x y : _) → kept-reads.Learnt κs a r x → kept-reads.Learnt κs a s y
+    → r ≡ s
+kept-determined κs a r s x y p q = p ∙ sym q
 
 -- the bytes handed back, the buffer that they lie in, and where in it
 pub keep-determined : (κs : _) (a : _) (r s : _) (x y : _) → keep-reads.Learnt κs a r x → keep-reads.Learnt κs a s y

@@ -10,21 +10,12 @@ use borrow.Author.Tests.{eqb-true, eqb-false, eq-eqb, ne-eqb}
 use lib.Dec.{eqb}
 use lib.ListN.{length, getD, set, replicate}
 use lib.Seq.{getD-set-same, getD-set-other}
-use Rattle.cover.specs.declared.Placed.{Placed}
 use Rattle.covering.specs.Lists.{isSome}
 use Rattle.covering.specs.Search.{Part, nowhere, also, placeTerm, placeTerms, placeAtom}
 use Rattle.covering.specs.Record.{Layout, termOf, argsAt, atomAt}
-use Rattle.cover.specs.HeldMap.{partOf, placedMap}
+use Rattle.cover.specs.HeldMap.{partOf, said}
 use Rattle.covering.proofs.Tests.{either}
 use Rattle.covering.proofs.Bytes.{term-same, term-var, term-con, args-more, args-end}
-
-pub placed-yes : (p : Placed) → p .ok ≡ true → placedMap p ≡ some (partOf (p .map))
-unfolding placedMap
-placed-yes p e = rw e
-
-pub placed-no : (p : Placed) → p .ok ≡ false → placedMap p ≡ none
-unfolding placedMap
-placed-no p e = rw e
 
 -- a byte of the map, whatever stands past its end
 getD-default : (m : List ℕ) (n d e : ℕ) → n < length m → getD m n d ≡ getD m n e
@@ -118,10 +109,6 @@ module _ (L : Layout) (F S : List ℕ) (i k : ℕ) (p : Part) where
   atoms-meet e = rw (eq-eqb (getD F i 0) (getD S k 0) e)
 
 -- the yes of an answer
-pub said-ok : (r : Placed) (o : Option Part) → placedMap r ≡ o → r .ok ≡ isSome o
-unfolding placedMap
-said-ok r o e = go (r .ok) e
-  where
-    go : (b : Bool) → cond b (some (partOf (r .map))) none ≡ o → b ≡ isSome o
-    go true q = ap isSome q
-    go false q = ap isSome q
+pub said-yes : (r : Bool) (m : List ℕ) (o : Option Part) → said r m ≡ o → r ≡ isSome o
+said-yes true m o e = ap isSome e
+said-yes false m o e = ap isSome e

@@ -1,7 +1,7 @@
 -- Laws of the search over atoms that stand one after the other in bytes: one for each way through the code.
 -- Assumes nothing.
-use mathlib.Core.Path.{_≡_, refl}
-use mathlib.Core.Bool.{Bool, true, false}
+use mathlib.Core.Path.{_≡_, refl, sym, _∙_}
+use mathlib.Core.Bool.{Bool, true, false, true≢false}
 use mathlib.Core.List.{List}
 use mathlib.Core.Option.{Option, none, some}
 use Prim.Native.Nat.{ℕ, _+_, _-_, _<_}
@@ -12,7 +12,7 @@ use Rattle.covering.specs.Term.{Atom, Question}
 use Rattle.covering.specs.Search.{Part, placeAtom, findMap}
 use Rattle.cover.specs.Candidates.{tried, coversOn, hasCandidate}
 use Rattle.covering.specs.Record.{Layout, size, atomAt, atomsAt, questionOf}
-use Rattle.cover.specs.HeldMap.{partOf}
+use Rattle.cover.specs.HeldMap.{partOf, Searched}
 use Rattle.covering.proofs.Places.{atoms-none, atoms-more}
 use Rattle.cover.proofs.Maps.{part-nowhere}
 
@@ -57,12 +57,12 @@ module _ (L : Layout) (S : List ℕ) (k more : ℕ) (p : Part) (a : Atom) where
   unfolding hasCandidate
   candidate-none e = rw (atoms-none L S k more e)
 
-  pub candidate-hit : {q : Part} → 0 < more → placeAtom p a (atomAt L S k) ≡ some q
+  pub candidate-hit : 0 < more → isSome (placeAtom p a (atomAt L S k)) ≡ true
       → hasCandidate p (atomsAt L S k more) a ≡ true
   unfolding hasCandidate
   candidate-hit h e = rw (atoms-more L S k more h, e)
 
-  pub candidate-miss : 0 < more → placeAtom p a (atomAt L S k) ≡ none
+  pub candidate-miss : 0 < more → isSome (placeAtom p a (atomAt L S k)) ≡ false
       → hasCandidate p (atomsAt L S k more) a ≡ hasCandidate p (atomsAt L S (k + size L) (more - 1)) a
   unfolding hasCandidate
   candidate-miss h e = rw (atoms-more L S k more h, e)
@@ -93,3 +93,15 @@ on-candidate L F S k n h =
     let all = atoms-more L F 1 (getD F 0 0) h in
     let one = atoms-more L S k 1 (omega arith) in
     rw (all, one, atoms-none L S (k + size L) (1 - 1) refl, part-nowhere n)
+
+-- a search's answer: a yes, a no, and the same of another search that finds the same
+module _ (o : Option Part) (came : List ℕ) where
+  pub found : (left : List ℕ) → some (partOf left) ≡ o → Searched o came left true
+  found left e = record { finds = e; back = λ t. absurd (true≢false t) }
+
+  pub not-found : o ≡ none → Searched o came came false
+  not-found e = record { finds = sym e; back = λ t. refl }
+
+  pub searched-as : (o′ : Option Part) (left : List ℕ) (r : Bool) → o ≡ o′ → Searched o came left r
+      → Searched o′ came left r
+  searched-as o′ left r e s = record { finds = s .finds ∙ e; back = s .back }

@@ -1,11 +1,11 @@
-// The search desk's two operations, for any bytes whatsoever.
+// The search desk's operations, for any bytes whatsoever.
 use crate::record::answers;
 use crate::record::is_record;
 use crate::search::covers_atoms;
 ghost use mathlib.Core.Path.{_≡_};
 ghost use lib.Dec.{T};
 ghost use Rattle.covering.specs.Record.{desk, askingOf, isRecord};
-ghost use Rattle.covering.specs.Desk.{coversAsking, coversAnswer, Keeps};
+ghost use Rattle.covering.specs.Desk.{coversAsking, coversAnswer, keptAnswer, Keeps};
 
 // Whether the first record covers the second. If only one has an answer record, it does not; else that record is an
 // atom as the others are.
@@ -43,15 +43,29 @@ pub fn covers(first: &[u8], second: &[u8]) -> u8
     0
 }
 
-// Which of two records to keep: the covering one, as its own buffer; the first of two equivalent ones; and the empty
-// part at the first's start where a record is malformed or neither covers the other.
+// Which of two records to keep: 1 the first, where it covers the second; 2 the second, where it alone covers; else 0.
+pub fn kept(first: &[u8], second: &[u8]) -> u8
+    ensures { λ r. ⌜ r ≡ keptAnswer desk (now (first .entry)) (now (second .entry)) ⌝ }
+{
+    if covers(first, second) == 1 {
+        return 1;
+    }
+    if covers(second, first) == 1 {
+        return 2;
+    }
+    0
+}
+
+// The same, as a part of its own buffer: the empty part at the first's start where a record is malformed or neither
+// covers the other.
 pub fn keep<'a>(first: &'a [u8], second: &'a [u8]) -> &'a [u8]
     ensures { λ r. ⌜ Keeps desk (first .entry) (second .entry) r ⌝ }
 {
-    if covers(first, second) == 1 {
+    let which = kept(first, second);
+    if which == 1 {
         return first;
     }
-    if covers(second, first) == 1 {
+    if which == 2 {
         return second;
     }
     &first[..0]

@@ -8,12 +8,7 @@ mod search;
 
 pub use desk::covers;
 pub use desk::keep;
+pub use desk::kept;
 pub use record::width;
 pub use search::covers_on;
 pub use search::covers_sound;
-
-// What a search answers: whether it placed all, and then where it sent each variable, 255 for nowhere.
-pub struct Placed {
-    pub ok: bool,
-    pub map: [u8; 64],
-}

@@ -1,88 +1,159 @@
-// Placing one atom of the first question on one atom of the second, under the map so far.
-use crate::Placed;
+// Placing one atom of the first question on one atom of the second, under the map so far, and taking it back. The map
+// has a byte for each variable, 255 where it goes nowhere yet. A candidate is tested before a byte is written.
 ghost use mathlib.Core.Path.{_≡_};
-ghost use Prim.Native.Nat.{_+_, _≤_};
-ghost use lib.Dec.{T};
-ghost use lib.ListN.{length};
+ghost use mathlib.Core.Bool.{cond};
+ghost use Prim.Native.Nat.{ℕ, _+_, _≤_, _<_};
+ghost use lib.Dec.{T, ltb};
+ghost use lib.ListN.{length, getD};
+ghost use Rattle.covering.specs.Lists.{isSome};
 ghost use Rattle.covering.specs.Search.{placeTerm, placeTerms, placeAtom};
 ghost use Rattle.covering.specs.Record.{stored, termOf, argsAt, atomAt, usedFirst, isAtom};
-ghost use Rattle.cover.specs.HeldMap.{partOf, placedMap};
+ghost use Rattle.cover.specs.HeldMap.{partOf, put, sentTo, HadBefore, takenBack};
 
-// Sends the term t to the term u: a constant to itself, a variable where it went before or, the first time, to u.
-fn place_term(map: [u8; 64], t: u8, u: u8) -> Placed
-    requires { ⌜ (64 ≤ t → 128 ≤ t) × (u ≡ 255 → ⊥) ⌝ }
-    ensures { λ r. ⌜ placedMap r ≡ placeTerm (partOf map) (termOf t) (termOf u) ⌝ }
+// Where the variable t goes once j places of first from i on are sent to those of second from k on: 255 for nowhere.
+fn goes_to(first: &[u8], second: &[u8], map: &[u8], i: usize, k: usize, j: usize, t: u8) -> u8
+    requires { ⌜ (t < 64)
+        × (length (now map) ≡ 64)
+        × (i + j ≤ length (now first))
+        × (k + j ≤ length (now second))
+        × ((n : ℕ) → n < j → getD (now second) (k + n) 0 ≡ 255 → ⊥) ⌝ }
+    ensures { λ r. ⌜ r
+        ≡ getD (sentTo (now (map .entry)) (now (first .entry)) (now (second .entry)) i k j) t 0 ⌝ }
 {
-    if t < 64 {
-        let at = t as usize;
-        let had = map[at];
-        if had == 255 {
-            let mut more = map;
-            more[at] = u;
-            return Placed {
-                ok: true,
-                map: more,
-            };
+    let had = map[t as usize];
+    if had != 255 {
+        return had;
+    }
+    let mut n = 0;
+    while n < j {
+        if first[i + n] == t {
+            return second[k + n];
         }
-        return Placed {
-            ok: had == u,
-            map: map,
-        };
+        n += 1;
     }
-    Placed {
-        ok: t == u,
-        map: map,
-    }
+    255
 }
 
-// Sends the used places of first from i on to those of second from k on: as many, each to its own.
-fn place_terms(first: &[u8], second: &[u8], i: usize, k: usize, map: [u8; 64]) -> Placed
-    requires { ⌜ (i + 4 ≤ length (now first)) × (k + 4 ≤ length (now second)) × T (usedFirst stored (now first) i 4) ⌝ }
-    ensures { λ r. ⌜ placedMap r
-        ≡ placeTerms (partOf map) (argsAt (now (first .entry)) i 4) (argsAt (now (second .entry)) k 4) ⌝ }
+// Whether the j-th place of first from i on, a term, can be sent to that of second from k on, after those before it.
+fn term_meets(first: &[u8], second: &[u8], map: &[u8], i: usize, k: usize, j: usize) -> bool
+    requires { ⌜ (length (now map) ≡ 64)
+        × (i + j < length (now first))
+        × (k + j < length (now second))
+        × ((n : ℕ) → n < j → getD (now second) (k + n) 0 ≡ 255 → ⊥)
+        × (getD (now second) (k + j) 0 ≡ 255 → ⊥)
+        × (64 ≤ getD (now first) (i + j) 0 → 128 ≤ getD (now first) (i + j) 0) ⌝ }
+    ensures { λ r. ⌜ r
+        ≡ isSome
+        (placeTerm
+        (partOf (sentTo (now (map .entry)) (now (first .entry)) (now (second .entry)) i k j))
+        (termOf (getD (now (first .entry)) (i + j) 0))
+        (termOf (getD (now (second .entry)) (k + j) 0))) ⌝ }
 {
-    let mut so_far = map;
+    let t = first[i + j];
+    let u = second[k + j];
+    if 64 <= t {
+        return t == u;
+    }
+    let goes = goes_to(first, second, map, i, k, j, t);
+    if goes == 255 {
+        return true;
+    }
+    goes == u
+}
+
+// Whether the used places of first from i on can be sent to those of second from k on: as many, each to its own.
+fn terms_meet(first: &[u8], second: &[u8], map: &[u8], i: usize, k: usize) -> bool
+    requires { ⌜ (length (now map) ≡ 64)
+        × (i + 4 ≤ length (now first))
+        × (k + 4 ≤ length (now second))
+        × T (usedFirst stored (now first) i 4) ⌝ }
+    ensures { λ r. ⌜ r
+        ≡ isSome
+        (placeTerms
+        (partOf (now (map .entry)))
+        (argsAt (now (first .entry)) i 4)
+        (argsAt (now (second .entry)) k 4)) ⌝ }
+{
     let mut j = 0;
     while j < 4 {
-        let t = first[i + j];
-        let u = second[k + j];
-        if t == 255 {
-            return Placed {
-                ok: u == 255,
-                map: so_far,
-            };
+        if first[i + j] == 255 {
+            return second[k + j] == 255;
         }
-        if u == 255 {
-            return Placed {
-                ok: false,
-                map: so_far,
-            };
+        if second[k + j] == 255 {
+            return false;
         }
-        let placed = place_term(so_far, t, u);
-        let ok = placed.ok;
-        if !ok {
-            return placed;
+        if !term_meets(first, second, map, i, k, j) {
+            return false;
         }
-        so_far = placed.map;
         j += 1;
     }
-    Placed {
-        ok: true,
-        map: so_far,
-    }
+    true
 }
 
-// Sends the atom of first at i to the atom of second at k.
-pub fn place_atom(first: &[u8], second: &[u8], i: usize, k: usize, map: [u8; 64]) -> Placed
-    requires { ⌜ (i + 5 ≤ length (now first)) × (k + 5 ≤ length (now second)) × T (isAtom stored (now first) i) ⌝ }
-    ensures { λ r. ⌜ placedMap r
-        ≡ placeAtom (partOf map) (atomAt stored (now (first .entry)) i) (atomAt stored (now (second .entry)) k) ⌝ }
+// Whether the atom of first at i can be placed on the atom of second at k, as the map is now.
+pub fn meets(first: &[u8], second: &[u8], map: &[u8], i: usize, k: usize) -> bool
+    requires { ⌜ (length (now map) ≡ 64)
+        × (i + 5 ≤ length (now first))
+        × (k + 5 ≤ length (now second))
+        × T (isAtom stored (now first) i) ⌝ }
+    ensures { λ r. ⌜ r
+        ≡ isSome
+        (placeAtom
+        (partOf (now (map .entry)))
+        (atomAt stored (now (first .entry)) i)
+        (atomAt stored (now (second .entry)) k)) ⌝ }
 {
     if first[i] != second[k] {
-        return Placed {
-            ok: false,
-            map: map,
-        };
+        return false;
     }
-    place_terms(first, second, i + 1, k + 1, map)
+    terms_meet(first, second, map, i + 1, k + 1)
+}
+
+// Sends t, where it is a variable that goes nowhere yet, to u. Gives what the map had for it, 255 for a constant.
+fn send_term(map: &mut [u8], t: u8, u: u8) -> u8
+    requires { ⌜ length (now map) ≡ 64 ⌝ }
+    ensures { λ r. ⌜ (now (map .exit) ≡ put (now (map .entry)) t u)
+        × (r ≡ cond (ltb t 64) (getD (now (map .entry)) t 0) 255) ⌝ }
+{
+    if 64 <= t {
+        return 255;
+    }
+    let at = t as usize;
+    let had = map[at];
+    if had == 255 {
+        map[at] = u;
+    }
+    had
+}
+
+// Sends the places of first from i on to those of second from k on, where they meet. Gives what the map had for each,
+// to take back to.
+pub fn send(first: &[u8], second: &[u8], map: &mut [u8], i: usize, k: usize) -> [u8; 4]
+    requires { ⌜ (length (now map) ≡ 64) × (i + 4 ≤ length (now first)) × (k + 4 ≤ length (now second)) ⌝ }
+    ensures { λ r. ⌜ (now (map .exit)
+        ≡ sentTo (now (map .entry)) (now (first .entry)) (now (second .entry)) i k 4)
+        × HadBefore (now (map .entry)) (now (first .entry)) (now (second .entry)) i k 4 r ⌝ }
+{
+    let mut before = [255u8; 4];
+    let mut j = 0;
+    while j < 4 {
+        before[j] = send_term(map, first[i + j], second[k + j]);
+        j += 1;
+    }
+    before
+}
+
+// Takes the places of first from i on back to what the map had before they were sent, the last first.
+pub fn take_back(first: &[u8], map: &mut [u8], i: usize, before: [u8; 4])
+    requires { ⌜ (length (now map) ≡ 64) × (i + 4 ≤ length (now first)) ⌝ }
+    ensures { λ _. ⌜ now (map .exit) ≡ takenBack (now (map .entry)) (now (first .entry)) i before 4 ⌝ }
+{
+    let mut left = 4;
+    while 0 < left {
+        left -= 1;
+        let t = first[i + left];
+        if t < 64 {
+            map[t as usize] = before[left];
+        }
+    }
 }

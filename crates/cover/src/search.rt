@@ -1,7 +1,9 @@
 // The search for a covering map: one function takes the next atom, one tries its next candidate, and they call each
-// other. The map goes by value, so a candidate that fails leaves nothing to take back.
-use crate::Placed;
-use crate::place::place_atom;
+// other. One map is lent through it. What an atom placed is taken back before its next candidate is tried, so a no
+// leaves the map as it came.
+use crate::place::meets;
+use crate::place::send;
+use crate::place::take_back;
 ghost use mathlib.Core.Path.{_≡_};
 ghost use Prim.Native.Nat.{_+_, _*_, _≤_, _<_};
 ghost use lib.Dec.{T};
@@ -10,21 +12,25 @@ ghost use Rattle.covering.specs.Lists.{all};
 ghost use Rattle.covering.specs.Search.{findMap, covers};
 ghost use Rattle.cover.specs.Candidates.{tried, coversOn, hasCandidate};
 ghost use Rattle.covering.specs.Record.{stored, isAtom, atomAt, atomsAt, questionOf, SoundRecord};
-ghost use Rattle.cover.specs.HeldMap.{partOf, placedMap};
+ghost use Rattle.cover.specs.HeldMap.{partOf, Searched};
 ghost use Rattle.covering.specs.Buffer.{AtomsIn};
 
 // Whether the atom of first at i can be placed on one of the w atoms of second, as the map is now.
-fn has_candidate(first: &[u8], second: &[u8], i: usize, w: usize, map: [u8; 64]) -> bool
-    requires { ⌜ (i + 5 ≤ length (now first)) × T (isAtom stored (now first) i) × (1 + w * 5 ≤ length (now second)) ⌝ }
+fn has_candidate(first: &[u8], second: &[u8], map: &[u8], i: usize, w: usize) -> bool
+    requires { ⌜ (length (now map) ≡ 64)
+        × (i + 5 ≤ length (now first))
+        × T (isAtom stored (now first) i)
+        × (1 + w * 5 ≤ length (now second)) ⌝ }
     ensures { λ r. ⌜ r
-        ≡ hasCandidate (partOf map) (atomsAt stored (now (second .entry)) 1 w) (atomAt stored (now (first .entry)) i) ⌝ }
+        ≡ hasCandidate
+        (partOf (now (map .entry)))
+        (atomsAt stored (now (second .entry)) 1 w)
+        (atomAt stored (now (first .entry)) i) ⌝ }
 {
     let mut at = 1;
     let mut more = w;
     while 0 < more {
-        let placed = place_atom(first, second, i, at, map);
-        let ok = placed.ok;
-        if ok {
+        if meets(first, second, map, i, at) {
             return true;
         }
         at += 5;
@@ -34,17 +40,19 @@ fn has_candidate(first: &[u8], second: &[u8], i: usize, w: usize, map: [u8; 64])
 }
 
 // The look-ahead: whether each of the `left` atoms of first from i on has a candidate.
-fn all_have(first: &[u8], second: &[u8], i: usize, left: usize, w: usize, map: [u8; 64]) -> bool
-    requires { ⌜ AtomsIn stored (now first) i left × (1 + w * 5 ≤ length (now second)) ⌝ }
+fn all_have(first: &[u8], second: &[u8], map: &[u8], i: usize, left: usize, w: usize) -> bool
+    requires { ⌜ (length (now map) ≡ 64)
+        × AtomsIn stored (now first) i left
+        × (1 + w * 5 ≤ length (now second)) ⌝ }
     ensures { λ r. ⌜ r
         ≡ all
-        (hasCandidate (partOf map) (atomsAt stored (now (second .entry)) 1 w))
+        (hasCandidate (partOf (now (map .entry))) (atomsAt stored (now (second .entry)) 1 w))
         (atomsAt stored (now (first .entry)) i left) ⌝ }
 {
     let mut at = i;
     let mut more = left;
     while 0 < more {
-        if !has_candidate(first, second, at, w, map) {
+        if !has_candidate(first, second, map, at, w) {
             return false;
         }
         at += 5;
@@ -55,24 +63,28 @@ fn all_have(first: &[u8], second: &[u8], i: usize, left: usize, w: usize, map: [
 
 // Takes the next atom: places the `left` atoms of first from i on, in order, on the w atoms of second. A branch in
 // which some atom has no candidate any more ends at once; that changes no answer.
-fn place_next(first: &[u8], second: &[u8], i: usize, left: usize, w: usize, map: [u8; 64]) -> Placed
-    requires { ⌜ AtomsIn stored (now first) i left × (left ≤ 12) × (w ≤ 12) × (1 + w * 5 ≤ length (now second)) ⌝ }
-    ensures { λ r. ⌜ placedMap r
-        ≡ findMap
+fn place_next(first: &[u8], second: &[u8], map: &mut [u8], i: usize, left: usize, w: usize) -> bool
+    requires { ⌜ (length (now map) ≡ 64)
+        × AtomsIn stored (now first) i left
+        × (left ≤ 12)
+        × (w ≤ 12)
+        × (1 + w * 5 ≤ length (now second)) ⌝ }
+    ensures { λ r. ⌜ Searched
+        (findMap
         (atomsAt stored (now (first .entry)) i left)
         (atomsAt stored (now (second .entry)) 1 w)
-        (partOf map) ⌝ }
+        (partOf (now (map .entry))))
+        (now (map .entry))
+        (now (map .exit))
+        r ⌝ }
 {
     if left == 0 {
-        return Placed { ok: true, map: map };
+        return true;
     }
-    if !all_have(first, second, i, left, w, map) {
-        return Placed {
-            ok: false,
-            map: map,
-        };
+    if !all_have(first, second, map, i, left, w) {
+        return false;
     }
-    try_candidate(first, second, i, left - 1, 1, w, w, map)
+    try_candidate(first, second, map, i, left - 1, 1, w, w)
 }
 
 // Tries the next candidate: the atom of first at i goes to the first of the `more` atoms of second from k on from
@@ -80,44 +92,43 @@ fn place_next(first: &[u8], second: &[u8], i: usize, left: usize, w: usize, map:
 fn try_candidate(
     first: &[u8],
     second: &[u8],
+    map: &mut [u8],
     i: usize,
     left: usize,
     k: usize,
     more: usize,
     w: usize,
-    map: [u8; 64],
-) -> Placed
-    requires { ⌜ AtomsIn stored (now first) i (left + 1)
+) -> bool
+    requires { ⌜ (length (now map) ≡ 64)
+        × AtomsIn stored (now first) i (left + 1)
         × (left < 12)
         × (more ≤ w)
         × (w ≤ 12)
         × (k + more * 5 ≤ length (now second))
         × (1 + w * 5 ≤ length (now second)) ⌝ }
-    ensures { λ r. ⌜ placedMap r
-        ≡ tried
+    ensures { λ r. ⌜ Searched
+        (tried
         (atomAt stored (now (first .entry)) i)
         (atomsAt stored (now (first .entry)) (i + 5) left)
         (atomsAt stored (now (second .entry)) 1 w)
         (atomsAt stored (now (second .entry)) k more)
-        (partOf map) ⌝ }
+        (partOf (now (map .entry))))
+        (now (map .entry))
+        (now (map .exit))
+        r ⌝ }
 {
     if more == 0 {
-        return Placed {
-            ok: false,
-            map: map,
-        };
+        return false;
     }
-    let placed = place_atom(first, second, i, k, map);
-    let ok = placed.ok;
-    if ok {
-        let extended = placed.map;
-        let rest = place_next(first, second, i + 5, left, w, extended);
-        let done = rest.ok;
-        if done {
-            return rest;
-        }
+    if !meets(first, second, map, i, k) {
+        return try_candidate(first, second, map, i, left, k + 5, more - 1, w);
     }
-    try_candidate(first, second, i, left, k + 5, more - 1, w, map)
+    let before = send(first, second, map, i + 1, k + 1);
+    if place_next(first, second, map, i + 5, left, w) {
+        return true;
+    }
+    take_back(first, map, i + 1, before);
+    try_candidate(first, second, map, i, left, k + 5, more - 1, w)
 }
 
 // Whether the n atoms of first after its count byte cover the w of second.
@@ -129,8 +140,8 @@ pub fn covers_atoms(first: &[u8], n: usize, second: &[u8], w: usize) -> bool
     ensures { λ r. ⌜ r
         ≡ covers (atomsAt stored (now (first .entry)) 1 n) (atomsAt stored (now (second .entry)) 1 w) ⌝ }
 {
-    let placed = place_next(first, second, 1, n, w, [255u8; 64]);
-    placed.ok
+    let mut map = [255u8; 64];
+    place_next(first, second, &mut map, 1, n, w)
 }
 
 // Whether the first record covers the second, where both are known to be sound and count all their atoms.
@@ -156,6 +167,6 @@ pub fn covers_on(first: &[u8], second: &[u8], k: usize) -> bool
 {
     let n = first[0] as usize;
     let w = second[0] as usize;
-    let placed = try_candidate(first, second, 1, n - 1, 1 + k * 5, 1, w, [255u8; 64]);
-    placed.ok
+    let mut map = [255u8; 64];
+    try_candidate(first, second, &mut map, 1, n - 1, 1 + k * 5, 1, w)
 }

@@ -9,6 +9,7 @@ use native.Mathlib.Omega.{arith}
 use Rattle.covering.specs.Asking.{Asking}
 use Rattle.covering.specs.Record.{Layout, askingOf, isRecord, recordOf}
 use Rattle.covering.specs.Desk.{coversAnswer, coversAsking, the-first, the-second, neither, which, coversNumber}
+use Rattle.covering.specs.Desk.{Chosen, chosenNumber, keptAnswer}
 use Rattle.covering.proofs.Tests.{either}
 
 module _ (L : Layout) (B : List ℕ) where
@@ -81,3 +82,33 @@ module _ (L : Layout) (A B : List ℕ) where
       → which (recordOf L A) (recordOf L B) ≡ neither
   unfolding coversAnswer
   keeps-neither n m = none-kept (recordOf L A) (recordOf L B) n m
+
+-- the number says which
+chosen-1 : (w : Chosen) → chosenNumber w ≡ 1 → w ≡ the-first
+chosen-1 the-first e = refl
+chosen-1 the-second e = absurd (omega arith)
+chosen-1 neither e = absurd (omega arith)
+
+chosen-2 : (w : Chosen) → chosenNumber w ≡ 2 → w ≡ the-second
+chosen-2 the-first e = absurd (omega arith)
+chosen-2 the-second e = refl
+chosen-2 neither e = absurd (omega arith)
+
+chosen-0 : (w : Chosen) → (chosenNumber w ≡ 1 → ⊥) → (chosenNumber w ≡ 2 → ⊥) → w ≡ neither
+chosen-0 the-first n m = absurd (n refl)
+chosen-0 the-second n m = absurd (m refl)
+chosen-0 neither n m = refl
+
+module _ (L : Layout) (A B : List ℕ) where
+  pub kept-first : keptAnswer L A B ≡ 1 → which (recordOf L A) (recordOf L B) ≡ the-first
+  unfolding keptAnswer
+  kept-first e = chosen-1 _ e
+
+  pub kept-second : keptAnswer L A B ≡ 2 → which (recordOf L A) (recordOf L B) ≡ the-second
+  unfolding keptAnswer
+  kept-second e = chosen-2 _ e
+
+  pub kept-neither : (keptAnswer L A B ≡ 1 → ⊥) → (keptAnswer L A B ≡ 2 → ⊥)
+      → which (recordOf L A) (recordOf L B) ≡ neither
+  unfolding keptAnswer
+  kept-neither n m = chosen-0 _ n m

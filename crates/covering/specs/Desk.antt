@@ -39,6 +39,15 @@ which none b = neither
 which (some p) none = neither
 which (some p) (some q) = cond (coversAsking p q) the-first (cond (coversAsking q p) the-second neither)
 
+-- the same in numbers, for whom no part can be handed back to: 0 neither, 1 the first, 2 the second
+abbrev pub chosenNumber : Chosen → ℕ
+chosenNumber neither = 0
+chosenNumber the-first = 1
+chosenNumber the-second = 2
+
+unfoldable pub keptAnswer : Layout → List ℕ → List ℕ → ℕ
+keptAnswer L first second = chosenNumber (which (recordOf L first) (recordOf L second))
+
 abbrev pub keptBytes : Chosen → List ℕ → List ℕ → List ℕ
 keptBytes the-first a b = a
 keptBytes the-second a b = b

@@ -14,21 +14,22 @@ use Rattle.cover.proofs.search.all_have.Statement.{statement}
 use Rattle.cover.proofs.search.all_have.Tie as tie
 
 abbrev Inv-loop : tie.InvT-loop
-Inv-loop first second i left w map at₀ more₀ at more =
+Inv-loop first second map i left w at₀ more₀ at more =
     AtomsIn stored first at more
     × (all (hasCandidate (partOf map) (atomsAt stored second 1 w)) (atomsAt stored first i left)
     ≡ all (hasCandidate (partOf map) (atomsAt stored second 1 w)) (atomsAt stored first at more))
 
 abbrev μ-loop : tie.MeasureT-loop
-μ-loop first second i left w map at₀ more₀ at more = more
+μ-loop first second map i left w at₀ more₀ at more = more
 
 loop-holds : tie.Need-loop-holds Inv-loop μ-loop
-loop-holds c = (c .before .before .pre .0, refl)
+loop-holds c = (c .before .before .before .pre .1, refl)
 
 has-candidate-requires : tie.Need-has-candidate-requires Inv-loop μ-loop
 has-candidate-requires c κs =
     let l = c .before .loop in
-    (omega arith, sound-more stored _ _ _ (omega arith) (l .inv .0 .sound) .0, omega arith)
+    let s = c .before .before .before .before .before in
+    (s .pre .0, omega arith, sound-more stored _ _ _ (omega arith) (l .inv .0 .sound) .0, omega arith)
 
 returns : tie.Need-returns Inv-loop μ-loop
 returns c =

@@ -1,9 +1,9 @@
 -- `cover::search::covers_on` meets its contract: the first atom is tried on one candidate, with no variable placed.
 use borrow.Author.Needs.{needs}
 use native.Mathlib.Omega.{arith}
-use mathlib.Core.Path.{_∙_}
+use mathlib.Core.Path.{refl, _∙_}
 use Rattle.covering.specs.Record.{stored, questionOf}
-use Rattle.cover.proofs.Maps.{said-ok}
+use Rattle.cover.proofs.Maps.{said-yes}
 use Rattle.cover.proofs.SearchSteps.{on-candidate}
 use Rattle.covering.proofs.Within.{sound-in, in-first}
 use Rattle.cover.proofs.search.covers_on.Statement.{statement}
@@ -21,18 +21,22 @@ shared-slice-read-w c = search needs
 cast-w : tie.Need-cast-w
 cast-w c = search needs
 
+slice-aggregate-try-candidate : tie.Need-slice-aggregate-try-candidate
+slice-aggregate-try-candidate c = search needs
+
 sub-try-candidate : tie.Need-sub-try-candidate
-sub-try-candidate c = search needs
+sub-try-candidate c = omega arith
 
 mul-try-candidate : tie.Need-mul-try-candidate
-mul-try-candidate c = search needs
+mul-try-candidate c = omega arith
 
 add-try-candidate : tie.Need-add-try-candidate
-add-try-candidate c = search needs
+add-try-candidate c = omega arith
 
 try-candidate-requires : tie.Need-try-candidate-requires
 try-candidate-requires c κs =
-    let start = c .before .before .before .before in (
+    let start = c .before .before .before .before .before in (
+      refl,
       in-first stored _ _ _ (sound-in stored _ (start .pre .0)) (omega (arith, start .pre .3)),
       omega arith,
       omega arith,
@@ -43,7 +47,7 @@ try-candidate-requires c κs =
 
 returns : tie.Need-returns
 unfolding questionOf
-returns c = said-ok (c .try-candidate .result) _ (c .try-candidate .ensures) ∙ on-candidate stored _ _ _ 64 (omega arith)
+returns c = said-yes _ _ _ (c .before .try-candidate .ensures .finds) ∙ on-candidate stored _ _ _ 64 (omega arith)
 
 pub covers-on-spec : {M : Type 1} → statement M
 covers-on-spec =
@@ -53,6 +57,7 @@ covers-on-spec =
     cast-n
     shared-slice-read-w
     cast-w
+    slice-aggregate-try-candidate
     sub-try-candidate
     mul-try-candidate
     add-try-candidate

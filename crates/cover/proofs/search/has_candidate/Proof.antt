@@ -7,32 +7,31 @@ use lib.ListN.{length}
 use Rattle.covering.specs.Record.{stored, atomAt, atomsAt}
 use Rattle.cover.specs.HeldMap.{partOf}
 use Rattle.cover.specs.Candidates.{hasCandidate}
-use Rattle.cover.proofs.Maps.{placed-yes, placed-no}
 use Rattle.cover.proofs.SearchSteps.{candidate-none, candidate-hit, candidate-miss}
 use Rattle.cover.proofs.search.has_candidate.Statement.{statement}
 use Rattle.cover.proofs.search.has_candidate.Tie as tie
 
 abbrev Inv-loop : tie.InvT-loop
-Inv-loop first second i w map at₀ more₀ at more =
+Inv-loop first second map i w at₀ more₀ at more =
     (at + more * 5 ≤ length second)
     × (hasCandidate (partOf map) (atomsAt stored second 1 w) (atomAt stored first i)
     ≡ hasCandidate (partOf map) (atomsAt stored second at more) (atomAt stored first i))
 
 abbrev μ-loop : tie.MeasureT-loop
-μ-loop first second i w map at₀ more₀ at more = more
+μ-loop first second map i w at₀ more₀ at more = more
 
 loop-holds : tie.Need-loop-holds Inv-loop μ-loop
-loop-holds c = (c .before .before .pre .2, refl)
+loop-holds c = (c .before .before .before .pre .3, refl)
 
-place-atom-requires : tie.Need-place-atom-requires Inv-loop μ-loop
-place-atom-requires c κs = (omega arith, omega arith, c .before .before .before .before .pre .1)
+meets-requires : tie.Need-meets-requires Inv-loop μ-loop
+meets-requires c κs =
+    let s = c .before .before .before .before .before in
+    (s .pre .0, omega arith, omega arith, s .pre .2)
 
 returns : tie.Need-returns Inv-loop μ-loop
 returns c =
-    let p = c .before .place-atom in
-    sym
-    (c .before .before .before .loop .inv .1
-    ∙ candidate-hit stored _ _ _ _ _ (omega arith) (sym (p .ensures) ∙ placed-yes (p .result) (c .if1 .taken)))
+    let l = c .before .before .before in
+    sym (l .loop .inv .1 ∙ candidate-hit stored _ _ _ _ _ (omega arith) (sym (c .before .meets .ensures) ∙ c .if1 .taken))
 
 add-at : tie.Need-add-at Inv-loop μ-loop
 add-at c = omega arith
@@ -45,10 +44,9 @@ loop-less c = omega arith
 
 loop-again : tie.Need-loop-again Inv-loop μ-loop
 loop-again c =
-    let p = c .before .place-atom in (
+    let l = c .before .before .before in (
       omega arith,
-      c .before .before .before .loop .inv .1
-          ∙ candidate-miss stored _ _ _ _ _ (omega arith) (sym (p .ensures) ∙ placed-no (p .result) (c .if1 .left)),
+      l .loop .inv .1 ∙ candidate-miss stored _ _ _ _ _ (omega arith) (sym (c .before .meets .ensures) ∙ c .if1 .left),
     )
 
 returns-2 : tie.Need-returns-2 Inv-loop μ-loop
@@ -61,7 +59,7 @@ has-candidate-spec =
     Inv-loop
     μ-loop
     loop-holds
-    place-atom-requires
+    meets-requires
     returns
     add-at
     sub-more

@@ -1,0 +1,144 @@
+-- Laws of the test of a candidate: where an atom's places can be sent, sending them is placing the atom. Assumes nothing.
+use mathlib.Core.Path.{_≡_, refl, sym, _∙_, ap, subst}
+use mathlib.Core.Bool.{Bool, true, false, cond}
+use mathlib.Core.Logic.{_⊎_, inl, inr}
+use mathlib.Core.List.{List}
+use mathlib.Core.Option.{Option, none, some}
+use Prim.Native.Nat.{ℕ, zero, suc, _+_, _-_, _<_}
+use native.Mathlib.Omega.{arith}
+use native.Mathlib.Nat.{add-zero}
+use borrow.Author.Tests.{eqb-true, eqb-false}
+use lib.Dec.{T, eqb}
+use lib.ListN.{length, getD}
+use Rattle.covering.specs.Lists.{isSome}
+use Rattle.covering.specs.Search.{Part, placeTerm, placeTerms, placeAtom}
+use Rattle.covering.specs.Record.{stored, termOf, argsAt, atomAt, isTerm, unused, usedFirst, isAtom}
+use Rattle.cover.specs.HeldMap.{partOf, sentTo}
+use Rattle.covering.proofs.Tests.{either, true→T, false→no}
+use Rattle.covering.proofs.Lists.{none-of}
+use Rattle.covering.proofs.Bytes.{used-more, used-stops, unused-passes, unused-fails, term-constant, atom-used}
+use Rattle.cover.proofs.Maps.{places-done, places-end, places-short}
+use Rattle.cover.proofs.Maps.{places-clash, places-next, atoms-apart, atoms-meet}
+use Rattle.cover.proofs.Sent.{put-constant, term-sends, sent-more, length-sent}
+
+-- the places of S that are sent so far, and one more, are used
+pub one-used : (S : List ℕ) (k j : ℕ) → ((n : ℕ) → n < j → getD S (k + n) 0 ≡ 255 → ⊥) → (getD S (k + j) 0 ≡ 255 → ⊥)
+    → (n : ℕ) → n < j + 1 → getD S (k + n) 0 ≡ 255 → ⊥
+one-used S k j before here n lt e = go (either (eqb n j))
+  where
+    go : (eqb n j ≡ true) ⊎ (eqb n j ≡ false) → ⊥
+    go (inl q) = here (subst (λ x. getD S (k + x) 0 ≡ 255) (eqb-true n j q) e)
+    go (inr q) = let other = eqb-false n j q in before n (omega arith) e
+
+pub not-some : {A : Type 0} (o : Option A) → isSome o ≡ false → o ≡ none
+not-some o e = none-of o (false→no _ e)
+
+pub some-if : {A : Type 0} (b : Bool) (x : A) → isSome (cond b (some x) none) ≡ b
+some-if true x = refl
+some-if false x = refl
+
+-- 255 is no term
+no-term : isTerm stored 255 ≡ false
+unfolding isTerm
+no-term = refl
+
+-- w places of which j are passed: where all can be sent, they are
+module _ (m F S : List ℕ) (i k w : ℕ) (l : length m ≡ 64) where
+  abbrev sent : ℕ → List ℕ
+  sent j = sentTo m F S i k j
+
+  abbrev rest : ℕ → Option Part
+  rest j = placeTerms (partOf (sent j)) (argsAt F (i + j) (w - j)) (argsAt S (k + j) (w - j))
+
+  module _ (j : ℕ) (lt : j < w) (u : T (usedFirst stored F (i + j) (w - j)))
+      (used : getD F (i + j) 0 ≡ 255 → ⊥) (used′ : getD S (k + j) 0 ≡ 255 → ⊥) where
+    -- one place that can be sent is sent
+    pub sent-next : isSome (placeTerm (partOf (sent j)) (termOf (getD F (i + j) 0)) (termOf (getD S (k + j) 0))) ≡ true
+        → rest j ≡ rest (j + 1)
+    sent-next b =
+        let more = used-more F i j w lt stored u used in
+        let size = length-sent m F S i k j ∙ l in
+        places-next F S i k j w lt _ used used′
+        (term-sends (sent j) _ _ size (term-constant stored _ (more .0)) used′ (true→T _ b)
+        ∙ ap (λ n. some (partOf n)) (sym (sent-more m F S i k j)))
+
+  -- once F's places end nothing more is sent
+  sent-end : (d j : ℕ) → j + d ≡ w → T (unused F (i + j) (w - j)) → sent w ≡ sent j
+  sent-end zero j e u = ap sent (omega arith)
+  sent-end (suc d) j e u = go (sent-end d (j + 1) (omega arith)) (either (eqb (getD F (i + j) 0) 255))
+    where
+      go : (T (unused F (i + (j + 1)) (w - (j + 1))) → sent w ≡ sent (j + 1))
+          → (eqb (getD F (i + j) 0) 255 ≡ true) ⊎ (eqb (getD F (i + j) 0) 255 ≡ false) → sent w ≡ sent j
+      go onward (inl b) =
+          let free = eqb-true _ _ b in
+          onward (subst T (unused-passes F i j w (omega arith) free) u)
+          ∙ sent-more m F S i k j
+          ∙ put-constant (sent j) (getD F (i + j) 0) (getD S (k + j) 0) (omega arith)
+      go onward (inr b) = absurd (subst T (unused-fails F i j w (omega arith) (eqb-false _ _ b)) u)
+
+  pub sent-all : (d j : ℕ) → j + d ≡ w → T (usedFirst stored F (i + j) (w - j)) → T (isSome (rest j))
+      → rest j ≡ some (partOf (sent w))
+  sent-all zero j e u s =
+      places-done F S (i + j) (k + j) (w - j) _ (omega arith) ∙ ap (λ n. some (partOf (sent n))) (omega arith)
+  sent-all (suc d) j e u s =
+      ends (sent-all d (j + 1) (omega arith)) (either (eqb (getD F (i + j) 0) 255)) (either (eqb (getD S (k + j) 0) 255))
+    where
+      -- the same of the places after this one
+      Onward : Type 0
+      Onward = T (usedFirst stored F (i + (j + 1)) (w - (j + 1))) → T (isSome (rest (j + 1)))
+          → rest (j + 1) ≡ some (partOf (sent w))
+
+      lt : j < w
+      lt = omega arith
+
+      -- what is none is not some
+      never : rest j ≡ none → rest j ≡ some (partOf (sent w))
+      never q = absurd (subst (λ o. T (isSome o)) q s)
+
+      stops : getD F (i + j) 0 ≡ 255 → T (unused F (i + j) (w - j))
+      stops q = subst T (used-stops F i j w lt stored (ap (isTerm stored) q ∙ no-term)) u
+
+      step : Option Part
+      step = placeTerm (partOf (sent j)) (termOf (getD F (i + j) 0)) (termOf (getD S (k + j) 0))
+
+      going-on : Onward → (getD F (i + j) 0 ≡ 255 → ⊥) → (getD S (k + j) 0 ≡ 255 → ⊥)
+          → (isSome step ≡ true) ⊎ (isSome step ≡ false) → rest j ≡ some (partOf (sent w))
+      going-on onward used used′ (inl b) =
+          let more = used-more F i j w lt stored u used in
+          let size = length-sent m F S i k j ∙ l in
+          let it : step ≡ some (partOf (sent (j + 1)))
+          = term-sends (sent j) _ _ size (term-constant stored _ (more .0)) used′ (true→T _ b)
+          ∙ ap (λ n. some (partOf n)) (sym (sent-more m F S i k j)) in
+          let next = places-next F S i k j w lt _ used used′ it in
+          next ∙ onward (more .1) (subst (λ o. T (isSome o)) next s)
+      going-on onward used used′ (inr b) = never (places-clash F S i k j w lt _ used used′ (not-some step b))
+
+      ends : Onward → (eqb (getD F (i + j) 0) 255 ≡ true) ⊎ (eqb (getD F (i + j) 0) 255 ≡ false)
+          → (eqb (getD S (k + j) 0) 255 ≡ true) ⊎ (eqb (getD S (k + j) 0) 255 ≡ false)
+          → rest j ≡ some (partOf (sent w))
+      ends onward (inl a) (inl b) =
+          places-end F S i k j w lt _ (eqb-true _ _ a)
+          ∙ rw b (ap (λ n. some (partOf n)) (sym (sent-end (suc d) j e (stops (eqb-true _ _ a)))))
+      ends onward (inl a) (inr b) = never (places-end F S i k j w lt _ (eqb-true _ _ a) ∙ rw b refl)
+      ends onward (inr a) (inl b) = never (places-short F S i k j w lt _ (eqb-false _ _ a) (eqb-true _ _ b))
+      ends onward (inr a) (inr b) = going-on onward (eqb-false _ _ a) (eqb-false _ _ b) (either (isSome step))
+
+-- an atom that can be placed is placed by sending its places
+pub atom-placed : (m F S : List ℕ) (i k : ℕ) → length m ≡ 64 → T (isAtom stored F i)
+    → T (isSome (placeAtom (partOf m) (atomAt stored F i) (atomAt stored S k)))
+    → placeAtom (partOf m) (atomAt stored F i) (atomAt stored S k) ≡ some (partOf (sentTo m F S (i + 1) (k + 1) 4))
+unfolding sentTo
+atom-placed m F S i k l sound s = go (either (eqb (getD F i 0) (getD S k 0)))
+  where
+    go : (eqb (getD F i 0) (getD S k 0) ≡ true) ⊎ (eqb (getD F i 0) (getD S k 0) ≡ false)
+        → placeAtom (partOf m) (atomAt stored F i) (atomAt stored S k) ≡ some (partOf (sentTo m F S (i + 1) (k + 1) 4))
+    go (inl b) =
+        let meet = atoms-meet stored F S i k (partOf m) (eqb-true _ _ b) in
+        let all = sent-all m F S (i + 1) (k + 1) 4 l 4 0 refl in
+        let used : T (usedFirst stored F (i + 1 + 0) 4) = rw add-zero (atom-used stored F i sound) in
+        let at-start : placeTerms (partOf m) (argsAt F (i + 1 + 0) 4) (argsAt S (k + 1 + 0) 4)
+        ≡ placeTerms (partOf m) (argsAt F (i + 1) 4) (argsAt S (k + 1) 4)
+        = rw (add-zero, add-zero) refl in
+        meet ∙ sym at-start ∙ all used (subst (λ o. T (isSome o)) (meet ∙ sym at-start) s)
+    go (inr b) =
+        absurd (subst (λ o. T (isSome o)) (atoms-apart stored F S i k (partOf m) (eqb-false _ _ b)) s)
