@@ -16,13 +16,22 @@ pub fn covers(first: &[u8], second: &[u8]) -> u8 {
     covers_question(&first, &second) as u8
 }
 
-/// The record that covers the other, as a part of its own buffer. "Equivalent records
-/// give the first. Malformed or incomparable ones give the empty part at the first's
-/// start."
-pub fn keep<'r>(first: &'r [u8], second: &'r [u8]) -> &'r [u8] {
+/// Which of the two is kept: 1 the first, which covers the second, "equivalent records give
+/// the first"; 2 the second; 0 neither, for they are malformed or incomparable.
+pub fn kept(first: &[u8], second: &[u8]) -> u8 {
     match (covers(first, second), covers(second, first)) {
-        (1, _) => first,
-        (_, 1) => second,
+        (1, _) => 1,
+        (_, 1) => 2,
+        _ => 0,
+    }
+}
+
+/// The record that covers the other, as a part of its own buffer. "Malformed or incomparable
+/// ones give the empty part at the first's start."
+pub fn keep<'r>(first: &'r [u8], second: &'r [u8]) -> &'r [u8] {
+    match kept(first, second) {
+        1 => first,
+        2 => second,
         _ => &first[..0],
     }
 }

@@ -2,7 +2,7 @@
 //! the second program says about a pair.
 
 use crate::cover;
-use crate::desk::{covers, keep, question_of};
+use crate::desk::{covers, kept, question_of};
 use crate::layout::{ANSWER, ATOM, UNUSED};
 use crate::random::Random;
 use crate::term::{Atom, Question, Term};
@@ -200,6 +200,14 @@ impl Default for Kinds {
 }
 
 impl Kinds {
+    /// Adds the pairs of another count.
+    pub fn add(&mut self, other: &Kinds) {
+        self.pairs += other.pairs;
+        for (mine, theirs) in self.counts.iter_mut().zip(&other.counts) {
+            *mine += theirs;
+        }
+    }
+
     /// Counts a pair.
     pub fn count(&mut self, pair: &Pair) {
         let judged = Judged::new(pair);
@@ -220,13 +228,9 @@ impl Kinds {
 
 /// The line for a pair: the number that covering gives, and which record is kept.
 pub fn answer(pair: &Pair) -> String {
-    let kept = keep(&pair.0, &pair.1);
-    let which = match kept {
-        [] => "none",
-        _ if std::ptr::eq(kept, &pair.0[..]) => "first",
-        _ => "second",
-    };
-    format!("covers {} keep {which}\n", covers(&pair.0, &pair.1))
+    let (first, second) = pair;
+    let which = ["none", "first", "second"][kept(first, second) as usize];
+    format!("covers {} keep {which}\n", covers(first, second))
 }
 
 /// The next pair: two questions, the second often made from the first, now and then

@@ -1,0 +1,55 @@
+/* Rauntiko for C programs: the proved routines, as an archive that `rust/archive` makes.
+ *
+ * All bytes are read and written as the build paper says. Every routine takes whatever bytes it is given and always
+ * returns; where it refuses, it changes no byte of any buffer. It keeps nothing and allocates nothing, so several
+ * threads may call it at a time. Of its caller it wants what C cannot check: each pointer leads to as many bytes as
+ * the length after it says (a length of 0 goes with any pointer but NULL), and a buffer that is written overlaps no
+ * other. */
+#ifndef RAUNTIKO_H
+#define RAUNTIKO_H
+
+#include <stddef.h>
+#include <stdint.h>
+
+#ifdef __cplusplus
+extern "C" {
+#endif
+
+/* The least room for the output of rauntiko_run. */
+#define RAUNTIKO_OUTPUT_ROOM 2952
+
+/* Rewrites the question of a stored book.
+ *
+ * Gives 0 if the union is complete: it stands at the start of `out`, `*place` is its length, and the bytes after it are
+ * not touched. Four little-endian 16-bit words come first (members, questions explored, offset of the first member,
+ * total length), then each member: a count byte, the answer record if the question has one, and that many atoms. An
+ * atom is five bytes: the relation and four places, a variable below 128, a constant from 128 on, 255 unused. An answer
+ * record has 255 in the relation's place and is not counted.
+ *
+ * Any other number is a refusal, and `*place` says where:
+ *    1      `out_len` is under 2,952                                           0
+ *    2      the book has under 18 bytes                                        0
+ *    3      a count in the header is outside its bounds                        0
+ *    4      offsets, total and length do not fit                               0
+ *    5      a relation's places are not 1 to 4                                 the byte's offset
+ *    6      a rule's counts or its extent                                      the byte's offset
+ *    7      a relation number or a place byte that is not allowed              the byte's offset
+ *    8      a new question has more than 8 atoms                               questions taken up
+ *    9      it would be a 65th member                                          questions taken up
+ *    10     the allowance of explorations is used up                           the allowance
+ *    11     an answer variable stands in no atom of the question               the byte's offset */
+uint8_t rauntiko_run(const uint8_t *book, size_t book_len, uint8_t *out, size_t out_len, size_t *place);
+
+/* If the first member record covers the second, that is, if the first holds wherever the second does: 0 no, 1 yes,
+ * 2 the first is malformed, 3 the second is. A record is what a member of a union is, with up to 11 atoms. */
+uint8_t rauntiko_covers(const uint8_t *first, size_t first_len, const uint8_t *second, size_t second_len);
+
+/* Which of two member records to keep: 1 the first, which covers the second; 2 the second, which alone covers the
+ * other; 0 neither, since one is malformed or they are incomparable. */
+uint8_t rauntiko_kept(const uint8_t *first, size_t first_len, const uint8_t *second, size_t second_len);
+
+#ifdef __cplusplus
+}
+#endif
+
+#endif
