@@ -99,7 +99,7 @@ impl Facts {
     /// if a bound is met.
     fn apply_everywhere(&mut self, rule: &Rule, bounds: Bounds) -> bool {
         let mut maps: Vec<Map> = Vec::new();
-        for_each_map(&rule.body, &self.atoms, &Map::new(), &mut |map| {
+        for_each_map(&rule.body, &self.atoms, &Map::default(), &mut |map| {
             maps.push(map.clone());
             maps.len() <= bounds.maps
         });
@@ -116,20 +116,19 @@ impl Facts {
     /// and each existential variable replaced by a fresh unknown". Where the head holds
     /// already for these frontier variables, what it would add says nothing new.
     fn apply(&mut self, rule: &Rule, map: &Map) {
-        let frontier = map.iter().filter(|(v, _)| rule.is_frontier(**v));
-        let mut map: Map = frontier.map(|(v, t)| (*v, *t)).collect();
+        let mut map = map.only(|v| rule.is_frontier(v));
         if some_map(&rule.head, &self.atoms, &map) {
             return;
         }
         for v in variables(&rule.head) {
             if rule.is_existential(v) {
-                map.insert(v, Term::Variable(self.unknowns));
+                map.put(v, Term::Variable(self.unknowns));
                 self.unknowns += 1;
             }
         }
         for atom in &rule.head {
             let fact = atom.map(|t| match t {
-                Term::Variable(v) => map[&v],
+                Term::Variable(v) => map.image(v).unwrap(),
                 Term::Constant(_) => t,
             });
             if !self.atoms.contains(&fact) {

@@ -1,10 +1,42 @@
 //! Covering, by trying every placement of atoms on atoms.
 
 use crate::term::{Atom, Question, Term};
-use std::collections::BTreeMap;
 
-/// A map of variables to terms; a variable that is not in it has no image yet.
-pub type Map = BTreeMap<usize, Term>;
+/// A map of variables to terms, as the pairs that were put into it, no variable in two. A
+/// variable that is in none has no image yet. What was put last is taken back first.
+#[derive(Clone, Default)]
+pub struct Map {
+    pairs: Vec<(usize, Term)>,
+}
+
+impl Map {
+    /// The image of a variable, if it has one.
+    pub fn image(&self, variable: usize) -> Option<Term> {
+        let pair = self.pairs.iter().find(|(v, _)| *v == variable);
+        pair.map(|(_, image)| *image)
+    }
+
+    /// Gives an image to a variable that has none.
+    pub fn put(&mut self, variable: usize, image: Term) {
+        self.pairs.push((variable, image));
+    }
+
+    /// The map on some of its variables alone.
+    pub fn only(&self, such: impl Fn(usize) -> bool) -> Map {
+        let pairs = self.pairs.iter().filter(|(v, _)| such(*v));
+        Map {
+            pairs: pairs.copied().collect(),
+        }
+    }
+
+    /// Tries something that may put more into the map, and takes that back.
+    fn tried(&mut self, mut step: impl FnMut(&mut Map) -> bool) -> bool {
+        let before = self.pairs.len();
+        let done = step(self);
+        self.pairs.truncate(before);
+        done
+    }
+}
 
 /// "A covers B if some map of A's variables to B's terms, constants fixed, sends
 /// every atom of A to an atom of B", and the answer record "to the other's".
@@ -20,8 +52,8 @@ pub fn equivalent(a: &Question, b: &Question) -> bool {
 /// Whether some map gives this row for the answer places and sends every atom to one of
 /// the facts. A Boolean question has the row without places.
 pub fn holds(question: &Question, row: &[Term], facts: &[Atom]) -> bool {
-    let start = sent_terms(&question.answer, row, &Map::new());
-    start.is_some_and(|start| some_map(&question.atoms, facts, &start))
+    let mut start = Map::default();
+    sent_terms(&question.answer, row, &mut start) && some_map(&question.atoms, facts, &start)
 }
 
 /// Whether some map that extends `start` sends each atom of `a` to an atom of `b`.
@@ -37,61 +69,53 @@ pub fn some_map(a: &[Atom], b: &[Atom], start: &Map) -> bool {
 /// Calls `visit` with every map that extends `start` and sends each atom of `a` to
 /// an atom of `b`, placements in order, until `visit` answers false.
 pub fn for_each_map(a: &[Atom], b: &[Atom], start: &Map, visit: &mut dyn FnMut(&Map) -> bool) {
-    let candidates: Vec<Vec<&Atom>> = a.iter().map(|atom| candidates(atom, b)).collect();
-    if candidates.iter().all(|list| !list.is_empty()) {
-        place(a, &candidates, start, visit);
+    let mut map = start.clone();
+    if a.iter().all(|atom| has_candidate(atom, b, &mut map)) {
+        place(a, b, &mut map, visit);
     }
 }
 
-/// Places the first of the atoms on each of its candidates in turn, and the others
-/// after it; false once `visit` has answered false.
-fn place(
-    atoms: &[Atom],
-    candidates: &[Vec<&Atom>],
-    map: &Map,
-    visit: &mut dyn FnMut(&Map) -> bool,
-) -> bool {
-    if atoms.is_empty() {
+/// Places the first of the atoms on each of `b` in turn, and the others after it; false
+/// once `visit` has answered false.
+fn place(atoms: &[Atom], b: &[Atom], map: &mut Map, visit: &mut dyn FnMut(&Map) -> bool) -> bool {
+    let Some((first, others)) = atoms.split_first() else {
         return visit(map);
-    }
-    candidates[0]
-        .iter()
-        .all(|target| match sent(&atoms[0], target, map) {
-            Some(longer) => place(&atoms[1..], &candidates[1..], &longer, visit),
-            None => true,
-        })
-}
-
-/// The atoms of `b` on which this atom could be placed if it stood alone.
-fn candidates<'b>(atom: &Atom, b: &'b [Atom]) -> Vec<&'b Atom> {
+    };
+    let goes_on = |map: &mut Map, target: &Atom, visit: &mut dyn FnMut(&Map) -> bool| {
+        !sent(first, target, map) || place(others, b, map, visit)
+    };
     b.iter()
-        .filter(|target| sent(atom, target, &Map::new()).is_some())
-        .collect()
+        .all(|target| map.tried(|map| goes_on(map, target, visit)))
 }
 
-/// The map made longer so that it sends the atom to the target, if it can be.
-fn sent(atom: &Atom, target: &Atom, map: &Map) -> Option<Map> {
-    match atom.relation == target.relation {
-        true => sent_terms(&atom.terms, &target.terms, map),
-        false => None,
-    }
+/// Whether this atom could be placed on one of `b` if no other had to be.
+fn has_candidate(atom: &Atom, b: &[Atom], map: &mut Map) -> bool {
+    b.iter()
+        .any(|target| map.tried(|map| sent(atom, target, map)))
 }
 
-/// The map made longer so that it sends these terms to those, place by place, if there are
-/// as many and it can be.
-fn sent_terms(terms: &[Term], targets: &[Term], map: &Map) -> Option<Map> {
-    if terms.len() != targets.len() {
-        return None;
-    }
-    let mut map = map.clone();
-    for (&from, &to) in terms.iter().zip(targets) {
-        let image = match from {
-            Term::Constant(_) => from,
-            Term::Variable(v) => *map.entry(v).or_insert(to),
-        };
-        if image != to {
-            return None;
+/// Makes the map longer so that it sends the atom to the target; whether it can be.
+fn sent(atom: &Atom, target: &Atom, map: &mut Map) -> bool {
+    atom.relation == target.relation && sent_terms(&atom.terms, &target.terms, map)
+}
+
+/// Makes the map longer so that it sends these terms to those, place by place; whether there
+/// are as many and it can be.
+fn sent_terms(terms: &[Term], targets: &[Term], map: &mut Map) -> bool {
+    let mut places = terms.iter().zip(targets);
+    terms.len() == targets.len() && places.all(|(&from, &to)| sent_term(from, to, map))
+}
+
+/// The same for one term.
+fn sent_term(from: Term, to: Term, map: &mut Map) -> bool {
+    let Term::Variable(v) = from else {
+        return from == to;
+    };
+    match map.image(v) {
+        Some(image) => image == to,
+        None => {
+            map.put(v, to);
+            true
         }
     }
-    Some(map)
 }

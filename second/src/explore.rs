@@ -129,9 +129,10 @@ impl Run<'_> {
         let (mut found, mut end) = (0, Ok(()));
         for_each_choice(question, rule, &mut |_, choice| {
             if let Some(classes) = self.way.valid(choice, seen) {
-                watch::valid_choice(choice, &classes, seen);
+                let unformed = choice.unformed(&classes);
+                watch::valid_choice(choice, &classes, &unformed, seen);
                 found += 1;
-                end = self.admit(choice.rewriting(&classes), steps, seen);
+                end = self.admit(form(&unformed), steps, seen);
             }
             end.is_ok() && !self.stops(arrival)
         });

@@ -3,14 +3,12 @@
 //!
 //! Reading order: `term`, `cover`, `form`, `unify`, `explore` say what a run is;
 //! `book`, `union`, `run`, `print` put it into bytes; `desk` is the search desk.
-//! `source` is the text form of books. `generate`, `damage`, `limits`, `seen`,
-//! `against` and `shrink` serve the comparer; `chase` and `ledger` the second check
-//! of what a complete union promises.
+//! `source` is the text form of books. `generate`, `damage`, `limits`, `pairs` and
+//! `seen` serve the comparer, a package of its own; `chase` and `ledger` the second
+//! check of what a complete union promises.
 
-pub mod against;
 pub mod book;
 pub mod chase;
-pub mod compare;
 pub mod cover;
 pub mod damage;
 pub mod desk;
@@ -27,7 +25,6 @@ pub mod refuse;
 pub mod run;
 pub mod seen;
 pub mod shapes;
-pub mod shrink;
 pub mod source;
 pub mod term;
 pub mod unify;

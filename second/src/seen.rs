@@ -15,7 +15,7 @@ macro_rules! behaviours {
 }
 
 behaviours! {
-    OutputTooSmall => "1: output under 2,952 bytes (the second program alone)",
+    OutputTooSmall => "1: output under 2,952 bytes",
     Empty => "2: no byte at all",
     UnderEighteen => "2: some bytes, under 18",
     NoRelation => "3: P is 0",

@@ -207,9 +207,11 @@ const KNOWN: Shape = Shape {
     facts: 50,
 };
 
-/// The shapes, those that are quick and telling more often.
+/// The shapes, those that are quick and telling more often: a book of rings or of the growing
+/// shape takes as long as ten of most others.
 pub const SHAPES: &[&Shape] = &[
-    &LINEAR, &LINEAR, &LINEAR, &UNKNOWNS, &UNKNOWNS, &UNKNOWNS, &UNKNOWNS, &RINGS, &RINGS,
-    &GENERAL, &GENERAL, &GENERAL, &WIDE, &WIDE, &GROWING, &GROWING, &WORDS, &LARGE, &LAYERS,
-    &LAYERS, &LAYERS, &LAYERS, &KNOWN, &KNOWN, &KNOWN,
+    &LINEAR, &LINEAR, &LINEAR, &LINEAR, &LINEAR, &LINEAR, &UNKNOWNS, &UNKNOWNS, &UNKNOWNS,
+    &UNKNOWNS, &RINGS, &GENERAL, &GENERAL, &GENERAL, &GENERAL, &GENERAL, &WIDE, &WIDE, &WIDE,
+    &WIDE, &GROWING, &WORDS, &LARGE, &LAYERS, &LAYERS, &LAYERS, &LAYERS, &KNOWN, &KNOWN, &KNOWN,
+    &KNOWN, &KNOWN,
 ];

@@ -118,8 +118,7 @@ impl Rule {
 }
 
 /// Whether the variable occurs in one of the atoms.
-pub fn occurs(variable: usize, atoms: &[Atom]) -> bool {
-    atoms
-        .iter()
-        .any(|atom| atom.terms.contains(&Term::Variable(variable)))
+pub fn occurs<'a>(variable: usize, atoms: impl IntoIterator<Item = &'a Atom>) -> bool {
+    let mut atoms = atoms.into_iter();
+    atoms.any(|atom| atom.terms.contains(&Term::Variable(variable)))
 }

@@ -49,14 +49,19 @@ pub fn choice_count(h: usize, n: usize) -> u64 {
 /// The digits of a choice's number in base h + 1, "the first atom being the most
 /// significant digit".
 pub fn digits_of(number: u64, h: usize, n: usize) -> Vec<usize> {
-    let base = h as u64 + 1;
     let mut digits = vec![0; n];
+    put_digits(number, h, &mut digits);
+    digits
+}
+
+/// Puts the digits of a choice's number there.
+fn put_digits(number: u64, h: usize, digits: &mut [usize]) {
+    let base = h as u64 + 1;
     let mut rest = number;
     for digit in digits.iter_mut().rev() {
         *digit = (rest % base) as usize;
         rest /= base;
     }
-    digits
 }
 
 /// Calls `visit` with each choice in which "relations must agree", in ascending order,
@@ -68,20 +73,20 @@ pub fn for_each_choice(
 ) {
     let (n, h) = (question.atoms.len(), rule.head.len());
     let mut number = 1;
+    let mut choice = Choice {
+        question,
+        rule,
+        digits: vec![0; n],
+    };
     while number < choice_count(h, n) {
-        let digits = digits_of(number, h, n);
-        match first_disagreement(&question.atoms, rule, &digits) {
+        put_digits(number, h, &mut choice.digits);
+        match first_disagreement(&question.atoms, rule, &choice.digits) {
             Some(at) => {
                 // No choice with these digits up to `at` agrees.
                 let below = choice_count(h, n - 1 - at);
                 number = (number / below + 1) * below;
             }
             None => {
-                let choice = Choice {
-                    question,
-                    rule,
-                    digits,
-                };
                 if !visit(number, &choice) {
                     return;
                 }
@@ -100,14 +105,11 @@ fn first_disagreement(question: &[Atom], rule: &Rule, digits: &[usize]) -> Optio
 }
 
 impl Choice<'_> {
-    /// What is left of the question: the answer record and the atoms not sent.
-    pub fn left(&self) -> Question {
+    /// The question atoms that are left. The answer record always is.
+    pub fn left(&self) -> Vec<&Atom> {
         let pairs = self.question.atoms.iter().zip(&self.digits);
         let left = pairs.filter(|(_, &digit)| digit == 0);
-        Question {
-            answer: self.question.answer.clone(),
-            atoms: left.map(|(atom, _)| atom.clone()).collect(),
-        }
+        left.map(|(atom, _)| atom).collect()
     }
 
     /// The question atoms that are sent, each with its head atom.
@@ -119,9 +121,9 @@ impl Choice<'_> {
     }
 
     /// The question atoms that are sent.
-    pub fn unified(&self) -> Question {
+    pub fn unified(&self) -> Vec<&Atom> {
         let sent = self.sent().into_iter();
-        Question::boolean(sent.map(|(atom, _)| atom.clone()).collect())
+        sent.map(|(atom, _)| atom).collect()
     }
 
     /// "terms at equal places are put in one class, as coarse as this requires and no
@@ -140,11 +142,16 @@ impl Choice<'_> {
     /// constants, and a class with an existential variable has otherwise only question
     /// variables that occur in no left atom", the answer record among them.
     pub fn faults(&self, classes: &Classes) -> Vec<Behaviour> {
-        self.faults_against(classes, &self.left())
+        self.faults_against(classes, &self.question.answer, &self.left())
     }
 
-    /// The same, with these atoms and this answer record in the place of what is left.
-    pub fn faults_against(&self, classes: &Classes, left: &Question) -> Vec<Behaviour> {
+    /// The same, with this answer record and these atoms in the place of what is left.
+    pub fn faults_against(
+        &self,
+        classes: &Classes,
+        answer: &[Term],
+        left: &[&Atom],
+    ) -> Vec<Behaviour> {
         let mut faults = Vec::new();
         for class in classes {
             let constants = class.iter().filter(|t| is_constant(t)).count();
@@ -153,20 +160,27 @@ impl Choice<'_> {
             }
             for unknown in class.iter().filter(|t| self.is_unknown(t)) {
                 let others = class.iter().filter(|other| *other != unknown);
-                faults.extend(others.filter_map(|other| self.fault_beside_unknown(other, left)));
+                let fault = |other| self.fault_beside_unknown(other, answer, left);
+                faults.extend(others.filter_map(fault));
             }
         }
         faults
     }
 
     /// What is wrong with this term standing in a class beside an unknown, if anything.
-    fn fault_beside_unknown(&self, other: &Apart, left: &Question) -> Option<Behaviour> {
-        let answered = |v| left.answer.contains(&Term::Variable(v));
+    fn fault_beside_unknown(
+        &self,
+        other: &Apart,
+        answer: &[Term],
+        left: &[&Atom],
+    ) -> Option<Behaviour> {
+        let answered = |v| answer.contains(&Term::Variable(v));
+        let is_left = |v| occurs(v, left.iter().copied());
         match *other {
             Apart::Constant(_) => Some(Behaviour::UnknownConstant),
             Apart::OfRule(v) if self.rule.is_existential(v) => Some(Behaviour::UnknownUnknown),
             Apart::OfRule(_) => Some(Behaviour::UnknownFrontier),
-            Apart::OfQuestion(v) if occurs(v, &left.atoms) => Some(Behaviour::UnknownLeft),
+            Apart::OfQuestion(v) if is_left(v) => Some(Behaviour::UnknownLeft),
             Apart::OfQuestion(v) if answered(v) => Some(Behaviour::UnknownAnswer),
             Apart::OfQuestion(_) => None,
         }
@@ -183,12 +197,15 @@ impl Choice<'_> {
     /// "The rewriting is the left atoms, then the rule's body, each class replaced by its
     /// constant or else one variable of it", before the form is taken.
     pub fn unformed(&self, classes: &Classes) -> Question {
-        let left = self.left();
-        let mut rewriting = left.map(|t| plain(replaced(classes, of_question(t))));
-        let body = self.rule.body.iter();
-        let body = body.map(|atom| atom.map(|t| plain(replaced(classes, of_rule(t)))));
-        rewriting.atoms.extend(body);
-        rewriting
+        let left_term = |t| plain(replaced(classes, of_question(t)));
+        let body_term = |t| plain(replaced(classes, of_rule(t)));
+        let left = self.left().into_iter().map(|atom| atom.map(left_term));
+        let body = self.rule.body.iter().map(|atom| atom.map(body_term));
+        let answer = self.question.answer.iter().copied();
+        Question {
+            answer: answer.map(left_term).collect(),
+            atoms: left.chain(body).collect(),
+        }
     }
 
     /// The rewriting in its form.
@@ -223,16 +240,18 @@ impl Choice<'_> {
 
 /// Makes one class of the classes of two terms.
 fn put_together(classes: &mut Classes, t: Apart, u: Apart) {
-    let touched = |class: &Vec<Apart>| class.contains(&t) || class.contains(&u);
-    let (joined, mut apart): (Classes, Classes) = classes.drain(..).partition(touched);
-    let mut class: Vec<Apart> = joined.into_iter().flatten().collect();
-    for term in [t, u] {
-        if !class.contains(&term) {
-            class.push(term);
+    let at = |term| classes.iter().position(|class| class.contains(term));
+    match (at(&t), at(&u)) {
+        (None, None) if t == u => classes.push(vec![t]),
+        (None, None) => classes.push(vec![t, u]),
+        (Some(i), None) => classes[i].push(u),
+        (None, Some(j)) => classes[j].push(t),
+        (Some(i), Some(j)) if i == j => (),
+        (Some(i), Some(j)) => {
+            let later = classes.swap_remove(i.max(j));
+            classes[i.min(j)].extend(later);
         }
     }
-    apart.push(class);
-    *classes = apart;
 }
 
 /// What stands for a term: its class's constant or else the least variable of it.

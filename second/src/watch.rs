@@ -13,7 +13,8 @@ pub fn question(asked: &Question, seen: &mut Seen) {
     let (kept, formed) = (distinct(&asked.atoms), form(asked));
     let fewer = kept.len() < asked.atoms.len();
     seen.mark_if(fewer, Behaviour::QuestionAtomsDropped);
-    seen.mark_if(kept != formed.atoms, Behaviour::QuestionRenumbered);
+    let renumbered = !kept.into_iter().eq(&formed.atoms);
+    seen.mark_if(renumbered, Behaviour::QuestionRenumbered);
     let by_answer = formed.atoms != form(&asked.unanswered()).atoms;
     seen.mark_if(by_answer, Behaviour::NumberedByAnswer);
     answer(&asked.answer, seen);
@@ -57,21 +58,20 @@ pub fn choices(question: &Question, rule: &Rule, seen: &mut Seen) {
 }
 
 /// What a valid choice shows.
-pub fn valid_choice(choice: &Choice, classes: &Classes, seen: &mut Seen) {
+pub fn valid_choice(choice: &Choice, classes: &Classes, unformed: &Question, seen: &mut Seen) {
     sending(choice, seen);
     unknowns(choice, classes, seen);
     constants(choice, classes, seen);
-    let outside = |v: &usize| !occurs(*v, &choice.rule.head);
-    let fresh = variables(&choice.rule.body).iter().any(outside);
-    seen.mark_if(fresh, Behaviour::BodyFresh);
-    let unformed = choice.unformed(classes);
+    let mut body = choice.rule.body.iter().flat_map(|atom| &atom.terms);
+    let outside = |t: &Term| t.variable().is_some_and(|v| !occurs(v, &choice.rule.head));
+    seen.mark_if(body.any(outside), Behaviour::BodyFresh);
     let fewer = distinct(&unformed.atoms).len() < unformed.atoms.len();
     seen.mark_if(fewer, Behaviour::RewritingAtomsDropped);
     seen.mark_if(choice.pieces(classes) > 1, Behaviour::SeveralPieces);
     answers(&choice.question.answer, &unformed.answer, seen);
     if choice.rule.is_fact() {
         seen.mark(Behaviour::FactMet);
-        let others = !choice.left().is_always();
+        let others = !choice.left().is_empty();
         seen.mark_if(others, Behaviour::FactMetOthersLeft);
         let answered = choice.question.is_answered();
         seen.mark_if(answered, Behaviour::FactMetAnswered);

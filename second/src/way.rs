@@ -104,8 +104,8 @@ impl Way {
     /// What is wrong with a choice.
     fn faults(self, choice: &Choice, classes: &Classes) -> Vec<Behaviour> {
         let mut faults = match self {
-            Way::UnifiedTested => choice.faults_against(classes, &choice.unified()),
-            Way::AnswerNotLeft => choice.faults_against(classes, &choice.left().unanswered()),
+            Way::UnifiedTested => choice.faults_against(classes, &[], &choice.unified()),
+            Way::AnswerNotLeft => choice.faults_against(classes, &[], &choice.left()),
             _ => choice.faults(classes),
         };
         if self == Way::UnknownPlain {

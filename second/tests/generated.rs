@@ -1,19 +1,13 @@
-//! The generator, the batch protocol, the wrong shortcuts and the shrinking.
+//! The generators of books and pairs, the wrong shortcuts and the ledgers.
 
-mod common;
-
-use second::against::Against;
-use second::book;
-use second::compare::Comparison;
 use second::cover::holds;
 use second::print::{print, print_by};
 use second::random::Random;
 use second::seen::{Behaviour, Seen, BEHAVIOURS};
 use second::term::Term;
 use second::way::{Way, WRONG_WAYS};
-use second::{generate, ledger, limits, pairs, shrink};
+use second::{generate, ledger, limits, pairs};
 use std::process::Command;
-use std::time::Duration;
 
 /// The first books of a seed.
 fn generated(seed: u64, many: usize) -> Vec<Vec<u8>> {
@@ -42,7 +36,7 @@ fn the_same_books_on_every_machine() {
 }
 
 /// The digest of the first thousand books of seed 1.
-const DIGEST: u64 = 0xac81_6404_7897_cd25;
+const DIGEST: u64 = 0xdf85_8594_f4ca_ff26;
 
 #[test]
 fn the_books_made_on_purpose_meet_every_behaviour() {
@@ -118,31 +112,6 @@ fn every_wrong_shortcut_is_caught() {
     }
 }
 
-/// The batch program in a given way.
-fn batch(word: Option<&str>) -> Against {
-    let mut command = vec![env!("CARGO_BIN_EXE_batch").to_string()];
-    command.extend(word.map(String::from));
-    Against::new(command, Duration::from_secs(60))
-}
-
-#[test]
-fn the_batch_program_answers_each_book() {
-    let books = generated(5, 200);
-    let said = batch(None).say(&books);
-    assert!(said.trouble.is_none());
-    assert_eq!(said.answers.len(), books.len());
-    for (book, answer) in books.iter().zip(&said.answers) {
-        assert_eq!(print(book).as_bytes(), &answer[..]);
-    }
-}
-
-#[test]
-fn a_program_that_is_not_there_is_told_of() {
-    let nowhere = Against::new(vec!["no-such-program".into()], Duration::from_secs(1));
-    let said = nowhere.say(&generated(6, 2));
-    assert!(said.answers.is_empty() && said.trouble.is_some());
-}
-
 #[test]
 fn pairs_for_the_desk_are_of_every_kind() {
     let mut random = Random::new(9);
@@ -155,12 +124,6 @@ fn pairs_for_the_desk_are_of_every_kind() {
         kinds.table()
     );
     assert_eq!(kinds.counts[..7].iter().sum::<usize>(), pairs.len());
-    let records = pairs.iter().flat_map(|(a, b)| [a.clone(), b.clone()]);
-    let said = batch(Some("--desk")).say(&Vec::from_iter(records));
-    assert_eq!(said.answers.len(), pairs.len());
-    for (pair, answer) in pairs.iter().zip(&said.answers) {
-        assert_eq!(pairs::answer(pair).as_bytes(), &answer[..]);
-    }
 }
 
 /// Runs a command of this package; whether it succeeded, and what it wrote.
@@ -168,29 +131,6 @@ fn command(path: &str, words: &[&str]) -> (bool, String) {
     let ended = Command::new(path).args(words).output().unwrap();
     let text = String::from_utf8_lossy(&ended.stdout).into_owned();
     (ended.status.success(), text)
-}
-
-#[test]
-fn the_comparer_shows_a_small_book_where_the_old_way_differs() {
-    let batch = env!("CARGO_BIN_EXE_batch");
-    let words = ["--count", "0", "--against", batch, "--old-way"];
-    let (fine, text) = command(env!("CARGO_BIN_EXE_compare"), &words);
-    assert!(!fine && text.contains("DIFFERENCE on 000-example-2.book"));
-    assert!(text.contains("question r1(v0,v1) r1(v1,v0)"), "{text}");
-}
-
-#[test]
-fn the_printing_program_is_compared_by_itself() {
-    let mut comparison = Comparison::new(None);
-    let program = |path: &str| Against::new(vec![path.into()], Duration::from_secs(60));
-    let mut books = limits::books();
-    books.retain(|(name, _)| name.ends_with(" bytes") || name == "largest");
-    assert!(books.iter().any(|(_, bytes)| bytes.len() > 65_536));
-    let right = program(env!("CARGO_BIN_EXE_second"));
-    assert_eq!(comparison.compare_program(&right, &books), Ok(()));
-    let wrong = program(env!("CARGO_BIN_EXE_batch"));
-    assert!(comparison.compare_program(&wrong, &books).is_err());
-    assert_eq!(comparison.compare(&books), Ok(()));
 }
 
 #[test]
@@ -228,32 +168,6 @@ fn rows_found_place_by_place_are_those_asked_one_by_one() {
             let by_place = ledger::rows(&question, &facts, &things);
             found += by_place.len() * (places > 1) as usize;
             assert_eq!(by_place, one_by_one);
-        }
-    }
-}
-
-#[test]
-fn a_program_that_fails_is_told_of_with_the_book() {
-    let script = "while read -r line; do :; done; exit 3";
-    let failing = vec!["sh".into(), "-c".into(), script.into()];
-    let mut comparison = Comparison::new(Some(Against::new(failing, Duration::from_secs(60))));
-    let books = [("the book".to_string(), generated(7, 1).remove(0))];
-    let told = comparison.compare(&books).unwrap_err();
-    assert!(
-        told.contains("the book") && told.contains("nothing"),
-        "{told}"
-    );
-}
-
-#[test]
-fn smaller_books_are_sound() {
-    let mut random = Random::new(8);
-    for _ in 0..200 {
-        let whole = generate::sound(&mut random);
-        for smaller in shrink::smaller(&whole) {
-            let bytes = book::write(&smaller);
-            assert!(book::read(&bytes, &mut Seen::default()).is_ok());
-            assert!(bytes.len() <= book::write(&whole).len());
         }
     }
 }

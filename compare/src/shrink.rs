@@ -1,8 +1,21 @@
 //! Making a book on which two programs differ small enough to read.
 
-use crate::book::{self, Book};
-use crate::seen::Seen;
-use crate::term::{variables, Atom, Rule, Term};
+use second::book::{self, Book};
+use second::seen::Seen;
+use second::term::{variables, Atom, Rule, Term};
+
+/// Makes a book smaller while the programs still differ on it. `differing` answers with the
+/// first of some smaller books on which they do.
+pub fn shrunk(bytes: &[u8], differing: impl Fn(&[Vec<u8>]) -> Option<usize>) -> Vec<u8> {
+    let mut now = bytes.to_vec();
+    loop {
+        let mut smaller = smaller_bytes(&now);
+        match differing(&smaller) {
+            Some(at) => now = smaller.swap_remove(at),
+            None => return now,
+        }
+    }
+}
 
 /// Bytes that are a little smaller than these: of a sound book sound ones, else the bytes
 /// with a part taken out.

@@ -1,9 +1,10 @@
 //! The second program as a batch program: what `compare --against` and, with `--desk`,
-//! `compare-desk --against` read and write. With the word for a wrong shortcut, such as
-//! `--old-way`, it is a program to be caught.
+//! `compare-desk --against` read and write. With `--one` it prints one book, as a printing
+//! program does. With the word for a wrong shortcut, such as `--old-way`, it is a program to
+//! be caught.
 
 use second::pairs;
-use second::print::print_by;
+use second::print::{print, print_by};
 use second::seen::Seen;
 use second::way::Way;
 use std::io::{Read, Write};
@@ -44,6 +45,9 @@ fn main() -> std::io::Result<()> {
     let way = Way::named(word.as_deref());
     let mut input = Vec::new();
     std::io::stdin().read_to_end(&mut input)?;
+    if word.as_deref() == Some("--one") {
+        return std::io::stdout().write_all(print(&input).as_bytes());
+    }
     let frames = frames(&input);
     let answers = match word.as_deref() == Some("--desk") {
         true => desk(&frames),

@@ -103,15 +103,6 @@ impl Against {
     }
 }
 
-/// The program that the rest of a command line names, after `--against`.
-pub fn command(words: impl Iterator<Item = String>, patience: Duration) -> Result<Against, String> {
-    let command: Vec<String> = words.collect();
-    match command.is_empty() {
-        true => Err("--against wants a command".into()),
-        false => Ok(Against::new(command, patience)),
-    }
-}
-
 /// Why the program's end is no good one, if it is not.
 fn ended(child: &mut Child) -> Option<String> {
     match child.wait() {

@@ -1,0 +1,133 @@
+//! The comparer: `compare [--seconds N] [--count N] [--seed S] [--threads N] [--books DIR]
+//! [--program PATH] [--against CMD ARG..]`. Runs the second program and the others in this
+//! process on the books in DIR, on the books made on purpose and on generated ones, and
+//! compares every byte. CMD is a batch program, given the same but for most of the generated
+//! ones; PATH a printing program that takes one book, given those in DIR and some made on
+//! purpose. Fails at the first difference, and if a behaviour of the paper was not met.
+
+use compare::against::Against;
+use compare::asked::Asked;
+use compare::blocks::{each_block, rate, BLOCK};
+use compare::comparison::Comparison;
+use compare::output::takes_small_output;
+use compare::programs::{compare_batch, compare_program};
+use compare::side::SIDES;
+use compare::Named;
+use second::seen::Behaviour;
+use second::{generate, limits, random::Random};
+use std::path::{Path, PathBuf};
+use std::process::ExitCode;
+use std::time::Instant;
+
+/// How many blocks of generated books a batch program is given.
+const BATCHES: u64 = 8;
+
+/// The books that stand in a directory, by name.
+fn kept_books(directory: &Path) -> Result<Vec<Named>, String> {
+    let entries = std::fs::read_dir(directory).map_err(|e| format!("{directory:?}: {e}"))?;
+    let mut paths: Vec<PathBuf> = entries.flatten().map(|entry| entry.path()).collect();
+    paths.retain(|path| path.extension().is_some_and(|e| e == "book"));
+    paths.sort();
+    let read = |path: PathBuf| {
+        let bytes = std::fs::read(&path).map_err(|e| format!("{path:?}: {e}"))?;
+        Ok((path.file_name().unwrap().to_string_lossy().into(), bytes))
+    };
+    paths.into_iter().map(read).collect()
+}
+
+/// The first books of a seed, by number.
+fn generated(seed: u64, many: usize) -> Vec<Named> {
+    let mut random = Random::new(seed);
+    let name = |i: usize| format!("book {i} of seed {seed}");
+    let books = (0..many).map(|i| (name(i), generate::next(&mut random)));
+    books.collect()
+}
+
+/// Whether a book made on purpose is worth a start of its own.
+fn single(name: &str) -> bool {
+    !name.starts_with("swept") && !name.starts_with("far")
+}
+
+/// Compares the programs that are asked for, and tells on how many books.
+fn compare_programs(asked: &Asked, kept: &[Named], made: &[Named]) -> Result<(), String> {
+    if let Some(against) = &asked.against {
+        let count = compare_batches(against, asked.seed, kept, made)?;
+        println!("the batch program: {count} books");
+    }
+    if let Some(program) = &asked.program {
+        let singles = made.iter().filter(|(name, _)| single(name));
+        let some: Vec<Named> = kept.iter().chain(singles).cloned().collect();
+        compare_program(program, &some)?;
+        println!("the printing program: {} books", some.len());
+    }
+    Ok(())
+}
+
+/// Compares a batch program; on how many books.
+fn compare_batches(
+    against: &Against,
+    seed: u64,
+    kept: &[Named],
+    made: &[Named],
+) -> Result<usize, String> {
+    compare_batch(against, kept)?;
+    compare_batch(against, made)?;
+    for block in 0..BATCHES {
+        compare_batch(against, &generated(seed.wrapping_add(block), BLOCK))?;
+    }
+    Ok(kept.len() + made.len() + BATCHES as usize * BLOCK)
+}
+
+/// Runs the whole comparison; how quickly it went.
+fn compare_all(asked: Asked) -> Result<(Comparison<'static>, String), String> {
+    let mut comparison = Comparison::new(SIDES);
+    let (kept, made) = (kept_books(&asked.books)?, limits::books());
+    comparison.compare(&kept)?;
+    comparison.compare(&made)?;
+    for (name, bytes) in &kept {
+        if let Some(who) = takes_small_output(bytes, SIDES, &mut comparison.seen) {
+            return Err(format!("{who}: a small output is not refused on {name}"));
+        }
+    }
+    println!("kept and made on purpose: {} books", comparison.compared);
+    compare_programs(&asked, &kept, &made)?;
+    let start = Instant::now();
+    let parts = each_block(
+        asked.blocks(),
+        || Comparison::new(SIDES),
+        |part, seed, many| part.compare(&generated(seed, many)),
+    )?;
+    let made = parts.iter().map(|part| part.compared).sum();
+    let rate = rate("books", made, parts.len(), start);
+    parts.iter().for_each(|part| comparison.add(part));
+    Ok((comparison, rate))
+}
+
+/// Tells what was compared and met; whether every behaviour was.
+fn report(comparison: &Comparison, rate: &str) -> bool {
+    print!("{}", comparison.seen.table());
+    println!("{rate}\n{}", comparison.times());
+    let (took, name) = &comparison.slowest;
+    println!("slowest: {name}, {:.2} s", took.as_secs_f64());
+    let complete = comparison.seen.count(Behaviour::Complete);
+    let compared = comparison.compared;
+    println!("books {compared}, of them complete {complete}, differences 0");
+    let missing = comparison.seen.missing();
+    for words in &missing {
+        println!("NOT MET: {words}");
+    }
+    missing.is_empty()
+}
+
+/// Compares, reports, and fails if anything differs or was not met.
+fn main() -> ExitCode {
+    let asked = Asked::read(std::env::args().skip(1), &["--books", "--program"]);
+    match asked.and_then(compare_all) {
+        Ok((comparison, rate)) if report(&comparison, &rate) => ExitCode::SUCCESS,
+        Ok(_) => ExitCode::FAILURE,
+        Err(what) => {
+            println!("{what}");
+            ExitCode::FAILURE
+        }
+    }
+}

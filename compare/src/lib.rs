@@ -1,0 +1,21 @@
+//! Compares the second program with the others, byte for byte.
+//!
+//! `side` names the others that are called in this process; `output` is what one says of a
+//! book, `comparison` compares it, `desk` what is said of pairs of records, and `blocks`
+//! spreads generated books and pairs over threads.
+//! `against` starts another program, `programs` compares it. `shrink` and `show` make a
+//! difference small and readable; `asked` reads the command lines.
+
+pub mod against;
+pub mod asked;
+pub mod blocks;
+pub mod comparison;
+pub mod desk;
+pub mod output;
+pub mod programs;
+pub mod show;
+pub mod shrink;
+pub mod side;
+
+/// A book with the name by which it is reported.
+pub type Named = (String, Vec<u8>);

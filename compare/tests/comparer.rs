@@ -1,0 +1,128 @@
+//! The comparer as a command, the programs that it starts, and the shrinking.
+
+use compare::against::Against;
+use compare::programs::{compare_batch, compare_program};
+use compare::{shrink, Named};
+use second::print::print;
+use second::random::Random;
+use second::seen::Seen;
+use second::{book, generate, limits, pairs};
+use std::process::Command;
+use std::time::Duration;
+
+/// The first books of a seed.
+fn generated(seed: u64, many: usize) -> Vec<Vec<u8>> {
+    let mut random = Random::new(seed);
+    (0..many).map(|_| generate::next(&mut random)).collect()
+}
+
+/// A program that may take a minute.
+fn program(command: &[&str]) -> Against {
+    let words = command.iter().map(|word| word.to_string());
+    Against::new(words.collect(), Duration::from_secs(60))
+}
+
+/// The batch program.
+const BATCH: &str = env!("CARGO_BIN_EXE_batch");
+
+/// Runs a command of this package; whether it succeeded, and what it wrote.
+fn command(path: &str, words: &[&str]) -> (bool, String) {
+    let ended = Command::new(path).args(words).output().unwrap();
+    let text = String::from_utf8_lossy(&ended.stdout).into_owned();
+    (ended.status.success(), text)
+}
+
+#[test]
+fn the_batch_program_answers_each_book() {
+    let books = generated(5, 200);
+    let said = program(&[BATCH]).say(&books);
+    assert!(said.trouble.is_none());
+    assert_eq!(said.answers.len(), books.len());
+    for (book, answer) in books.iter().zip(&said.answers) {
+        assert_eq!(print(book).as_bytes(), &answer[..]);
+    }
+}
+
+#[test]
+fn the_batch_program_answers_each_pair() {
+    let pairs = compare::desk::generated(9, 2000);
+    let records = pairs.iter().flat_map(|(a, b)| [a.clone(), b.clone()]);
+    let said = program(&[BATCH, "--desk"]).say(&Vec::from_iter(records));
+    assert_eq!(said.answers.len(), pairs.len());
+    for (pair, answer) in pairs.iter().zip(&said.answers) {
+        assert_eq!(pairs::answer(pair).as_bytes(), &answer[..]);
+    }
+}
+
+#[test]
+fn a_program_that_is_not_there_is_told_of() {
+    let said = program(&["no-such-program"]).say(&generated(6, 2));
+    assert!(said.answers.is_empty() && said.trouble.is_some());
+}
+
+#[test]
+fn a_program_that_fails_is_told_of_with_the_book() {
+    let script = "while read -r line; do :; done; exit 3";
+    let books = [("the book".to_string(), generated(7, 1).remove(0))];
+    let told = compare_batch(&program(&["sh", "-c", script]), &books).unwrap_err();
+    assert!(
+        told.contains("the book") && told.contains("nothing"),
+        "{told}"
+    );
+}
+
+#[test]
+fn the_printing_program_is_compared_by_itself() {
+    let mut books: Vec<Named> = limits::books();
+    books.retain(|(name, _)| name.ends_with(" bytes") || name == "largest");
+    assert!(books.iter().any(|(_, bytes)| bytes.len() > 65_536));
+    let right = program(&[BATCH, "--one"]);
+    assert_eq!(compare_program(&right, &books), Ok(()));
+    assert!(compare_program(&program(&[BATCH]), &books).is_err());
+}
+
+#[test]
+fn the_comparer_shows_a_small_book_where_the_old_way_differs() {
+    let words = ["--count", "0", "--against", BATCH, "--old-way"];
+    let (fine, text) = command(env!("CARGO_BIN_EXE_compare"), &words);
+    assert!(!fine && text.contains("DIFFERENCE on 000-example-2.book"));
+    assert!(text.contains("question r1(v0,v1) r1(v1,v0)"), "{text}");
+}
+
+#[test]
+fn the_comparer_meets_every_behaviour_and_no_difference() {
+    let words = ["--count", "700", "--threads", "2", "--against", BATCH];
+    let (fine, text) = command(env!("CARGO_BIN_EXE_compare"), &words);
+    assert!(fine, "{text}");
+    assert!(text.contains("generated: 700 books "), "{text}");
+    assert!(text.trim_end().ends_with("differences 0"), "{text}");
+    let nowhere = ["--count", "0", "--books", "no-such-directory"];
+    let (fine, text) = command(env!("CARGO_BIN_EXE_compare"), &nowhere);
+    assert!(!fine && text.contains("no-such-directory"), "{text}");
+}
+
+#[test]
+fn the_desk_is_compared_in_the_process_and_with_a_program() {
+    let path = env!("CARGO_BIN_EXE_compare-desk");
+    let right = ["--count", "5000", "--against", BATCH, "--desk"];
+    let (fine, text) = command(path, &right);
+    assert!(fine, "{text}");
+    assert!(text.ends_with("pairs 5000, differences 0\n"), "{text}");
+    let (fine, text) = command(path, &["--count", "10", "--against", BATCH]);
+    assert!(!fine && text.contains("DIFFERENCE"), "{text}");
+    let (fine, text) = command(path, &["--books", "."]);
+    assert!(!fine && text == "--books is not known\n", "{text}");
+}
+
+#[test]
+fn smaller_books_are_sound() {
+    let mut random = Random::new(8);
+    for _ in 0..200 {
+        let whole = generate::sound(&mut random);
+        for smaller in shrink::smaller(&whole) {
+            let bytes = book::write(&smaller);
+            assert!(book::read(&bytes, &mut Seen::default()).is_ok());
+            assert!(bytes.len() <= book::write(&whole).len());
+        }
+    }
+}

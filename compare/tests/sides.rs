@@ -1,0 +1,190 @@
+//! That an implementation in the process is caught wherever it differs, and how.
+
+use compare::blocks::{each_block, Until};
+use compare::comparison::Comparison;
+use compare::desk::{compare_pair, generated};
+use compare::output::takes_small_output;
+use compare::side::{Answered, Side, SIDES};
+use compare::Named;
+use second::pairs::Pair;
+use second::random::Random;
+use second::run::run_by;
+use second::seen::Seen;
+use second::way::Way;
+use second::{desk, generate};
+use std::collections::BTreeSet;
+use std::sync::Mutex;
+
+/// The second program in a given way.
+fn by(way: Way, book: &[u8], out: &mut [u8]) -> Answered {
+    let answer = run_by(book, out, way, &mut Seen::default());
+    (answer.number as u8, answer.place)
+}
+
+/// The second program as a side.
+const RIGHT: Side = Side {
+    name: "the second program once more",
+    run: |book, out| by(Way::Right, book, out),
+    covers: desk::covers,
+    kept: desk::kept,
+};
+
+/// One that runs books in another way.
+const fn running(run: fn(&[u8], &mut [u8]) -> Answered) -> Side {
+    Side { run, ..RIGHT }
+}
+
+/// Generated books.
+fn books(many: usize) -> Vec<Named> {
+    let mut random = Random::new(21);
+    (0..many)
+        .map(|i| (format!("book {i}"), generate::next(&mut random)))
+        .collect()
+}
+
+/// What is told of a side on generated books.
+fn told(side: Side) -> Result<(), String> {
+    Comparison::new(&[side]).compare(&books(2000))
+}
+
+#[test]
+fn a_right_side_passes() {
+    assert_eq!(told(RIGHT), Ok(()));
+    let mut comparison = Comparison::new(SIDES);
+    assert_eq!(comparison.compare(&books(500)), Ok(()));
+    assert_eq!(comparison.compared, 500);
+    let times = comparison.times();
+    assert!(times.contains("the proved routines"), "{times}");
+}
+
+#[test]
+fn a_wrong_side_is_caught_on_a_small_book() {
+    let old_way = running(|book, out| by(Way::OnePiece, book, out));
+    let told = told(old_way).unwrap_err();
+    assert!(told.starts_with("DIFFERENCE on book "), "{told}");
+    assert!(told.contains("\nquestion r"), "{told}");
+}
+
+#[test]
+fn a_wrong_number_place_or_byte_is_caught() {
+    let place = running(|book, out| match by(Way::Right, book, out) {
+        (8, place) => (8, place + 1),
+        other => other,
+    });
+    let number = running(|book, out| match by(Way::Right, book, out) {
+        (11, place) => (7, place),
+        other => other,
+    });
+    let count = running(|book, out| {
+        let answered = by(Way::Right, book, out);
+        if answered.0 == 0 {
+            out[2] = out[2].wrapping_add(1);
+        }
+        answered
+    });
+    for side in [place, number, count] {
+        assert!(told(side).unwrap_err().starts_with("DIFFERENCE"));
+    }
+}
+
+#[test]
+fn a_byte_touched_after_the_total_or_on_a_refusal_is_caught() {
+    let after = running(|book, out| {
+        let answered = by(Way::Right, book, out);
+        if answered.0 == 0 {
+            out[answered.1] = 0;
+        }
+        answered
+    });
+    let last = running(|book, out| {
+        out[out.len() - 1] = 0;
+        by(Way::Right, book, out)
+    });
+    let refused = running(|book, out| {
+        let answered = by(Way::Right, book, out);
+        if answered.0 > 7 {
+            out[2000] = 0;
+        }
+        answered
+    });
+    for (side, byte) in [
+        (after, ""),
+        (last, ""),
+        (refused, "byte 2000 of the output is 0"),
+    ] {
+        let told = told(side).unwrap_err();
+        assert!(
+            told.starts_with("DIFFERENCE") && told.contains(byte),
+            "{told}"
+        );
+    }
+}
+
+#[test]
+fn a_side_that_takes_a_small_output_is_caught() {
+    let (_, book) = books(1).remove(0);
+    let judges_late = running(|book, out| match out.len() < 2000 {
+        true => by(Way::Right, book, out),
+        false => (0, 8),
+    });
+    let mut seen = Seen::default();
+    assert_eq!(takes_small_output(&book, SIDES, &mut seen), None);
+    let taken = takes_small_output(&book, &[judges_late], &mut seen);
+    assert_eq!(taken, Some(RIGHT.name));
+}
+
+#[test]
+fn a_wrong_answer_of_the_desk_is_caught() {
+    let pairs = generated(22, 2000);
+    let all = |side: Side| {
+        let mut pairs = pairs.iter();
+        pairs.try_for_each(|pair: &Pair| compare_pair(&[side], pair))
+    };
+    assert_eq!(all(RIGHT), Ok(()));
+    let turned = Side {
+        covers: |first, second| desk::covers(second, first),
+        ..RIGHT
+    };
+    let second_kept = Side {
+        kept: |first, second| match desk::kept(first, second) {
+            1 if desk::covers(second, first) == 1 => 2,
+            which => which,
+        },
+        ..RIGHT
+    };
+    for side in [turned, second_kept] {
+        assert!(all(side).unwrap_err().starts_with("DIFFERENCE\nfirst ["));
+    }
+}
+
+#[test]
+fn blocks_have_seeds_of_their_own_whatever_the_threads() {
+    let taken = |threads| {
+        let seeds = Mutex::new(BTreeSet::new());
+        let gathered = each_block(
+            (7, Until::Count(1700), threads),
+            || 0,
+            |count, seed, many| {
+                assert!(seeds.lock().unwrap().insert((seed, many)));
+                *count += many;
+                Ok(())
+            },
+        );
+        let gathered: Vec<usize> = gathered.unwrap();
+        assert_eq!((gathered.len(), gathered.iter().sum()), (threads, 1700));
+        seeds.into_inner().unwrap()
+    };
+    assert!(taken(1)
+        .into_iter()
+        .eq([(7, 500), (8, 500), (9, 500), (10, 200)]));
+    assert_eq!(taken(1), taken(3));
+    let failing = each_block(
+        (0, Until::Count(9000), 2),
+        || (),
+        |_, seed, _| match seed {
+            3 => Err("the fourth".into()),
+            _ => Ok(()),
+        },
+    );
+    assert_eq!(failing, Err("the fourth".into()));
+}
