@@ -1,0 +1,18 @@
+//! The benchmark: the proved program and plain Rust on the same books, side by side.
+//!
+//! Reading order: `task` says what is timed, `books` and `pairs` make it, `sides` are the two
+//! programs, `check` compares their answers, `clock` and `timing` measure, `figures` and `table`
+//! report, `machine` and `page` write docs/SPEED.md, `options` reads the command line.
+
+pub mod books;
+pub mod check;
+pub mod clock;
+pub mod figures;
+pub mod machine;
+pub mod options;
+pub mod page;
+pub mod pairs;
+pub mod sides;
+pub mod table;
+pub mod task;
+pub mod timing;

@@ -1,0 +1,8 @@
+//! Covering by itself: pairs of records for the search desk.
+
+mod graphs;
+mod hard;
+mod taken;
+
+pub use hard::tasks as hard;
+pub use taken::tasks as taken;

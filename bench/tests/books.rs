@@ -1,0 +1,126 @@
+//! The books are what their names say, and both sides answer them as the second program does.
+
+use bench::books::{ordinary, worst, SIZES};
+use bench::check::{agreed, answer, counts};
+use bench::sides::{PROVED, ROOM};
+use bench::task::{wanted, Pace, Task, Work};
+use second::book;
+use second::seen::Seen;
+use std::collections::BTreeSet;
+
+/// The book of a task, read by the second program.
+fn read(task: &Task) -> book::Book {
+    let bytes = task.book().expect("a book");
+    match book::read(bytes, &mut Seen::default()) {
+        Ok(book) => book,
+        Err(fault) => panic!("{}: refused {} at {}", task.name, fault.number, fault.place),
+    }
+}
+
+#[test]
+fn every_book_is_sound_and_has_its_rules() {
+    for task in ordinary().iter().chain(&worst()) {
+        assert_eq!(read(task).rules.len(), task.rules, "{}", task.name);
+    }
+}
+
+#[test]
+fn every_kind_has_two_books_of_each_size() {
+    let books = ordinary();
+    let kinds: BTreeSet<&str> = books.iter().map(|task| task.kind).collect();
+    assert_eq!(kinds.len(), 4);
+    for (kind, size) in kinds.iter().flat_map(|kind| SIZES.map(|size| (kind, size))) {
+        let such = books.iter().filter(|t| t.kind == *kind && t.rules == size);
+        assert!(such.count() >= 2, "{kind}, {size} rules");
+    }
+}
+
+#[test]
+fn names_are_different() {
+    let tasks = wanted(&|name, _| !name.contains("-of-"));
+    let names: BTreeSet<&str> = tasks.iter().map(|task| task.name.as_str()).collect();
+    assert_eq!(names.len(), tasks.len());
+}
+
+#[test]
+fn some_ordinary_books_have_answer_places() {
+    let books = ordinary();
+    let answered = books
+        .iter()
+        .filter(|task| read(task).question.is_answered());
+    assert!(answered.count() >= 8);
+}
+
+/// Members and explored questions of an ordinary book, which must be complete.
+fn complete(task: &Task) -> (usize, usize) {
+    let counted = counts(task, &answer(task, &PROVED));
+    counted.unwrap_or_else(|| panic!("{} is not complete", task.name))
+}
+
+#[test]
+fn ordinary_books_are_complete_and_of_their_kind() {
+    for task in ordinary() {
+        let (members, explored) = complete(&task);
+        match task.kind {
+            "many rounds" => assert!(explored > 100, "{}: {explored}", task.name),
+            "near 64 members" => assert!(members >= 60, "{}: {members}", task.name),
+            _ => assert!(members >= 7, "{}: {members}", task.name),
+        }
+    }
+}
+
+#[test]
+fn the_longest_run_takes_up_a_thousand() {
+    let tasks = worst();
+    let long = tasks.iter().find(|task| task.name == "explorations-1000");
+    assert_eq!(complete(long.expect("the book")).1, 1000);
+}
+
+/// What the second program answers, in the form in which the sides' answers are compared.
+fn second_answer(task: &Task) -> Vec<u8> {
+    match &task.work {
+        Work::Covers(pairs) => pairs
+            .iter()
+            .map(|(a, b)| second::desk::covers(a, b))
+            .collect(),
+        Work::Run(book) => {
+            let mut out = [0xa5; ROOM];
+            let answered = second::run::run(book, &mut out);
+            let mut bytes = vec![answered.number as u8];
+            bytes.extend(answered.place.to_le_bytes());
+            bytes.extend(out);
+            bytes
+        }
+    }
+}
+
+#[test]
+fn both_sides_agree_on_whatever_is_quick() {
+    for task in wanted(&|_, pace| pace == Pace::Ordinary) {
+        agreed(&task).unwrap();
+    }
+}
+
+/// Brute force takes long where a search has many ways to fail.
+fn is_quick_for_brute_force(name: &str, pace: Pace) -> bool {
+    let slow = [
+        "covering-",
+        "choices-",
+        "explorations-",
+        "many-rounds",
+        "pair-unrelated",
+        "pair-leaves",
+    ];
+    let is_slow = slow.iter().any(|part| name.contains(part));
+    pace == Pace::Ordinary && (!is_slow || name == "many-rounds-8-widened")
+}
+
+#[test]
+fn the_second_program_agrees_where_it_is_quick() {
+    let quick = wanted(&is_quick_for_brute_force);
+    assert!(quick.len() > 40);
+    for task in quick {
+        let same = answer(&task, &PROVED) == second_answer(&task);
+        assert!(same, "{}", task.name);
+    }
+}
