@@ -2,10 +2,12 @@
 //!
 //! Reading order: `task` says what is timed, `books` and `pairs` make it, `sides` are the two
 //! programs, `check` compares their answers, `clock` and `timing` measure, `figures` and `table`
-//! report, `machine` and `page` write docs/SPEED.md, `options` reads the command line.
+//! report, `machine` and `page` write docs/SPEED.md, `options` reads the command line. `climb` is the
+//! search towards slow books.
 
 pub mod books;
 pub mod check;
+pub mod climb;
 pub mod clock;
 pub mod figures;
 pub mod machine;

@@ -3,21 +3,35 @@
 use std::fs::read_to_string;
 use std::process::Command;
 
+/// More processes than this at once, and the numbers are said to be provisional.
+const QUIET: f64 = 1.5;
+
 /// Lines about the processor, the compilers and how busy the machine is.
 pub fn lines() -> String {
     let processors = std::thread::available_parallelism().map_or(0, |n| n.get());
-    let busy = read_to_string("/proc/loadavg").unwrap_or_default();
-    let busy = busy.split_whitespace().next().unwrap_or("unknown");
     format!(
-        "- Processor: {}, {processors} of them. Processes that ran or waited when it began, by the\n  \
-         system's mean over a minute: {busy}.\n\
-         - Plain Rust: {}, its LLVM {}; level 3, one code unit, nothing else.\n\
+        "- Processor: {}, {processors} of them. {}\n\
+         - Plain Rust: {}, its LLVM {}; level 3, one code unit, for any x86-64.\n\
          - The proved code: {}, whose compiler gets one LLVM module at -O3 for any x86-64.\n",
         processor(),
+        busy(),
         said("rustc", &["--version"], ""),
         said("rustc", &["-vV"], "LLVM version: "),
         said("rt", &["version"], ""),
     )
+}
+
+/// Whether the machine was quiet when the benchmark began, by the system's mean over a minute.
+fn busy() -> String {
+    let text = read_to_string("/proc/loadavg").unwrap_or_default();
+    let load: Option<f64> = text.split(' ').next().and_then(|word| word.parse().ok());
+    match load {
+        None => "How busy it was is not known.".into(),
+        Some(load) if load <= QUIET => "It was quiet.".into(),
+        Some(load) => format!(
+            "**Provisional**: it was not quiet;\n  {load:.1} processes ran or waited when this began."
+        ),
+    }
 }
 
 /// The processor's name.

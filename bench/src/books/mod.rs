@@ -1,6 +1,7 @@
 //! The books: four ordinary kinds in three sizes, and the worst ones known.
 
 mod choices;
+mod climbed;
 mod late;
 mod members;
 mod ontology;
@@ -27,5 +28,5 @@ pub fn ordinary() -> Vec<Task> {
 /// The worst ones known.
 pub fn worst() -> Vec<Task> {
     let books = choices::books().into_iter().chain(late::books());
-    books.map(Words::task).collect()
+    books.map(Words::task).chain(climbed::books()).collect()
 }

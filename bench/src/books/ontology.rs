@@ -8,7 +8,7 @@ pub fn books(rules: usize) -> Vec<Words> {
     vec![
         ordinary("ontology", "managers", first(MANAGERS), MANAGED),
         ordinary("ontology", "critical", first(MANAGERS), critical(rules)),
-        ordinary("ontology", "loans", first(LOANS), LENT),
+        ordinary("ontology", "loans", first(LOANS), lent(rules)),
         ordinary("ontology", "visits", first(LOANS), visited(rules)),
     ]
 }
@@ -96,7 +96,13 @@ const LOANS: [&str; 32] = [
     "lists(i,s) -> listed(s)",
 ];
 
-const LENT: &str = "chain(a,b,c) overhung(a) watercolour(c)";
+/// The light ledger's question; with few rules of a wider word, so that they all have to do with it.
+fn lent(rules: usize) -> &'static str {
+    match rules {
+        8 => "chain(a,b,c) overhung(a) sheet(c)",
+        _ => "chain(a,b,c) overhung(a) watercolour(c)",
+    }
+}
 
 /// What was seen together, by name.
 fn visited(rules: usize) -> &'static str {

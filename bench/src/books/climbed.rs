@@ -1,0 +1,35 @@
+//! Books that the search towards slow ones has found (`climb`), as it found them.
+
+use crate::task::{Pace, Task, Work};
+use second::{book, source};
+
+/// Each with its name.
+const FOUND: [(&str, Pace, &str); 2] = [
+    (
+        "climbed-proved",
+        Pace::Heavy,
+        include_str!("../../books/climbed-proved.txt"),
+    ),
+    (
+        "climbed-plain",
+        Pace::Ordinary,
+        include_str!("../../books/climbed-plain.txt"),
+    ),
+];
+
+/// The books.
+pub fn books() -> Vec<Task> {
+    FOUND.iter().map(task).collect()
+}
+
+/// One of them, ready to be timed.
+fn task((name, pace, text): &(&str, Pace, &str)) -> Task {
+    let read = source::read(text).unwrap_or_else(|what| panic!("{name}: {what}"));
+    Task {
+        kind: "worst known",
+        name: name.to_string(),
+        rules: read.book.rules.len(),
+        pace: *pace,
+        work: Work::Run(book::write(&read.book)),
+    }
+}

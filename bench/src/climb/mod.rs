@@ -1,0 +1,81 @@
+//! A search that climbs towards slow books: a book is changed a little again and again, and what is
+//! slower is kept. It finds what nobody thought of; what it finds belongs among the worst known.
+
+mod change;
+mod timer;
+
+pub use change::changed;
+pub use timer::{serve, Timer, CHILD};
+
+use second::book::{self, Book};
+use second::generate;
+use second::random::Random;
+use std::time::{Duration, Instant};
+
+/// Changes that bring nothing before the climb begins anew elsewhere.
+const PATIENCE: usize = 300;
+
+/// A climb keeps what is at most so much faster than where it stands: small changes of the time say
+/// nothing, and a ridge has level parts.
+const LEVEL: f64 = 0.95;
+
+/// The slowest book that was found.
+pub struct Slowest {
+    pub book: Book,
+    /// Nanoseconds, or none if it was stopped at the limit.
+    pub time: Option<u64>,
+    pub tried: usize,
+}
+
+/// Climbs for so long, from one random book after another; ends early where the limit is met.
+pub fn climb(timer: &mut Timer, seed: u64, long: Duration) -> Result<Slowest, String> {
+    let began = Instant::now();
+    let mut random = Random::new(seed);
+    let mut best = Slowest {
+        book: start(&mut random),
+        time: Some(0),
+        tried: 0,
+    };
+    while best.time.is_some() && began.elapsed() < long {
+        one_climb(timer, &mut random, &mut best, began + long)?;
+    }
+    Ok(best)
+}
+
+/// A book to begin with, which may explore as much as there is.
+fn start(random: &mut Random) -> Book {
+    let allowed = 1000;
+    Book {
+        allowed,
+        ..generate::sound(random)
+    }
+}
+
+/// One climb from a new book, until patience or time is over.
+fn one_climb(
+    timer: &mut Timer,
+    random: &mut Random,
+    best: &mut Slowest,
+    end: Instant,
+) -> Result<(), String> {
+    let mut now = start(random);
+    let mut here = 0;
+    let mut patience = PATIENCE;
+    while patience > 0 && best.time.is_some() && Instant::now() < end {
+        let next = changed(&now, random);
+        let time = timer.time(&book::write(&next))?;
+        best.tried += 1;
+        let reached = time.unwrap_or(u64::MAX);
+        patience = match reached > here {
+            true => PATIENCE,
+            false => patience - 1,
+        };
+        if reached > best.time.unwrap_or(u64::MAX) {
+            (best.book, best.time) = (next.clone(), time);
+        }
+        if reached as f64 >= here as f64 * LEVEL {
+            (now, here) = (next, here.max(reached));
+        }
+    }
+    Ok(())
+}

@@ -1,0 +1,34 @@
+//! The changes by which the search climbs.
+
+use bench::climb::changed;
+use second::book;
+use second::generate::sound;
+use second::random::Random;
+use second::seen::Seen;
+
+#[test]
+fn a_changed_book_is_sound() {
+    let mut random = Random::new(5);
+    let mut now = sound(&mut random);
+    let mut different = 0;
+    for _ in 0..2000 {
+        let next = changed(&now, &mut random);
+        let read = book::read(&book::write(&next), &mut Seen::default());
+        assert!(read.is_ok_and(|read| read == next));
+        different += (next != now) as usize;
+        now = next;
+    }
+    assert!(different > 1000, "{different}");
+}
+
+#[test]
+fn the_same_seed_climbs_alike() {
+    let walk = |seed: u64| {
+        let mut random = Random::new(seed);
+        let mut now = sound(&mut random);
+        (0..100).for_each(|_| now = changed(&now, &mut random));
+        book::write(&now)
+    };
+    assert_eq!(walk(1), walk(1));
+    assert_ne!(walk(1), walk(2));
+}
