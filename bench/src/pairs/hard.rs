@@ -74,7 +74,7 @@ fn same() -> Vec<Task> {
 /// One pair, asked in this order.
 fn hard(name: &str, pace: Pace, first: Vec<Arrow>, second: Vec<Arrow>) -> Task {
     Task {
-        kind: "covering, hard shapes",
+        kind: "covering, shapes",
         name: format!("pair-{name}"),
         rules: 0,
         pace,

@@ -54,7 +54,7 @@ fn of_book(task: &Task, wants: Wants) -> Vec<Task> {
 /// A task of this name.
 fn covering(name: String, pairs: Vec<(Bytes, Bytes)>) -> Task {
     Task {
-        kind: "covering, members of eight",
+        kind: "covering, members",
         name,
         rules: 0,
         pace: Pace::Ordinary,
