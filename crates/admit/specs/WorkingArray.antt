@@ -3,11 +3,12 @@
 use mathlib.Core.Path.{_≡_}
 use mathlib.Core.Bool.{cond}
 use mathlib.Core.List.{List, [], _∷_, _++_}
+use mathlib.Core.Option.{Option}
 use Prim.Native.Nat.{ℕ, suc, _+_, _≤_}
 use lib.ListN.{length, take, drop}
-use Rattle.covering.specs.Lists.{_∈_}
+use Rattle.covering.specs.Lists.{_∈_, firstOf}
 use Rattle.covering.specs.Term.{Question}
-use Rattle.covering.specs.Search.{covers}
+use Rattle.covering.specs.Search.{Part, firstMap, covers}
 use Rattle.covering.specs.Record.{stored, Fits}
 use Rattle.admit.specs.declared.Extent.{Extent}
 use Rattle.admit.specs.declared.Moved.{Moved}
@@ -44,6 +45,10 @@ pub record Working (W : List ℕ) (e : Extent) : Type 0 where
 unfoldable pub beforeCovering : Test → Question → List Question → ℕ
 beforeCovering cov P [] = 0
 beforeCovering cov P (M ∷ U) = let r = suc (beforeCovering cov P U) in cond (cov M P) 0 r
+
+-- the map by which it covers P, none where none does
+unfoldable pub coveredBy : Question → List Question → Option Part
+coveredBy P U = firstOf (λ M. firstMap M P) U
 
 -- Of the n members that stand in W from `from` on, those that P does not cover stand in X from `to` on; what is before
 -- `to` and after the last of the n is as it was.

@@ -26,7 +26,8 @@ pub fn admit(work: &mut [u8], filled: Extent, rewriting: &[u8], answers: u8) -> 
         (now (work .exit))
         r ⌝ }
 {
-    if member_covering(work, filled.count, rewriting) < filled.count {
+    let mut map = [255u8; 64];
+    if member_covering(work, filled.count, rewriting, &mut map) < filled.count {
         return Fate::Dropped;
     }
     if ATOMS + answers < rewriting[0] {

@@ -5,16 +5,18 @@ use denote.Ref.{now, ptr}
 use Rattle.cover.proofs.desk.covers.Reads as covers-reads
 use Rattle.cover.proofs.desk.kept.Reads as kept-reads
 use Rattle.cover.proofs.desk.keep.Reads as keep-reads
+use Rattle.cover.proofs.Maps.{said-yes}
 use Rattle.cover.proofs.search.covers_sound.Reads as covers-sound-reads
 use Rattle.cover.proofs.search.covers_on.Reads as covers-on-reads
 
+-- the number and the map's bytes
 pub covers-determined : (κs : _) (a : _) (r s : _) (x y : _) → covers-reads.Learnt κs a r x
-    → covers-reads.Learnt κs a s y → r ≡ s
-covers-determined κs a r s x y p q = p ∙ sym q
+    → covers-reads.Learnt κs a s y → (r .number ≡ s .number) × (r .map ≡ s .map)
+covers-determined κs a r s x y p q = (p .0 ∙ sym (q .0), p .1 ∙ sym (q .1))
 
 pub kept-determined : (κs : _) (a : _) (r s : _) (x y : _) → kept-reads.Learnt κs a r x → kept-reads.Learnt κs a s y
-    → r ≡ s
-kept-determined κs a r s x y p q = p ∙ sym q
+    → (r .which ≡ s .which) × (r .map ≡ s .map)
+kept-determined κs a r s x y p q = (p .0 ∙ sym (q .0), p .1 ∙ sym (q .1))
 
 -- the bytes handed back, the buffer that they lie in, and where in it
 pub keep-determined : (κs : _) (a : _) (r s : _) (x y : _) → keep-reads.Learnt κs a r x → keep-reads.Learnt κs a s y
@@ -25,6 +27,7 @@ pub covers-sound-determined : (κs : _) (a : _) (r s : _) (x y : _) → covers-s
     → covers-sound-reads.Learnt κs a s y → r ≡ s
 covers-sound-determined κs a r s x y p q = p ∙ sym q
 
+-- whether there is a map, and then where it sends each variable
 pub covers-on-determined : (κs : _) (a : _) (r s : _) (x y : _) → covers-on-reads.Learnt κs a r x
     → covers-on-reads.Learnt κs a s y → r ≡ s
-covers-on-determined κs a r s x y p q = p ∙ sym q
+covers-on-determined κs a r s x y p q = said-yes r _ _ (p .finds) ∙ sym (said-yes s _ _ (q .finds))

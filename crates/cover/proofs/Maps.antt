@@ -1,20 +1,21 @@
 -- Laws of the map as the code holds it: one more variable placed is one more byte stored. Assumes nothing.
-use mathlib.Core.Path.{_≡_, refl, sym, _∙_, ap, fun-ext}
+use mathlib.Core.Path.{_≡_, refl, sym, _∙_, ap, ap₂, fun-ext}
 use mathlib.Core.Bool.{Bool, true, false, cond}
 use mathlib.Core.Logic.{_⊎_, inl, inr}
-use mathlib.Core.List.{List, _∷_}
+use mathlib.Core.List.{List, [], _∷_, map}
 use mathlib.Core.Option.{Option, none, some}
 use Prim.Native.Nat.{ℕ, zero, suc, _+_, _-_, _≤_, _<_}
 use native.Mathlib.Omega.{arith}
 use borrow.Author.Tests.{eqb-true, eqb-false, eq-eqb, ne-eqb}
 use lib.Dec.{eqb}
-use lib.ListN.{length, getD, set, replicate}
+use lib.ListN.{length, getD, set, replicate, length-replicate}
 use lib.Seq.{getD-set-same, getD-set-other}
-use Rattle.covering.specs.Lists.{isSome}
+use Rattle.covering.specs.Lists.{isSome, numbers}
 use Rattle.covering.specs.Search.{Part, nowhere, also, placeTerm, placeTerms, placeAtom}
-use Rattle.covering.specs.Record.{Layout, termOf, argsAt, atomAt}
-use Rattle.cover.specs.HeldMap.{partOf, said}
-use Rattle.covering.proofs.Tests.{either}
+use Rattle.covering.specs.Record.{Layout, termOf, byteOf, argsAt, atomAt}
+use Rattle.cover.specs.HeldMap.{partOf, said, Searched}
+use Rattle.covering.specs.FirstMap.{goesByte, mapBytes, mapOr}
+use Rattle.covering.proofs.Tests.{either, le-or-lt}
 use Rattle.covering.proofs.Bytes.{term-same, term-var, term-con, args-more, args-end}
 
 -- a byte of the map, whatever stands past its end
@@ -112,3 +113,43 @@ module _ (L : Layout) (F S : List ℕ) (i k : ℕ) (p : Part) where
 pub said-yes : (r : Bool) (m : List ℕ) (o : Option Part) → said r m ≡ o → r ≡ isSome o
 said-yes true m o e = ap isSome e
 said-yes false m o e = ap isSome e
+
+-- the bytes of a map are those of the part that it holds
+module _ (f : ℕ → ℕ) where
+  numbers-are : (i : ℕ) (l : List ℕ) → ((j : ℕ) → j < length l → f (i + j) ≡ getD l j 0)
+      → map f (numbers i (length l)) ≡ l
+  numbers-are i [] h = refl
+  numbers-are i (x ∷ l) h =
+      ap₂ _∷_ (ap f (omega arith) ∙ h 0 (omega arith))
+      (numbers-are (suc i) l (λ j lt. ap f (omega arith) ∙ h (suc j) (omega arith)))
+
+byte-back : (b : ℕ) → byteOf (termOf b) ≡ b
+byte-back b = go (le-or-lt 128 b)
+  where
+    go : (128 ≤ b) ⊎ (b < 128) → byteOf (termOf b) ≡ b
+    go (inl h) = rw (term-con b h) (omega arith)
+    go (inr h) = rw (term-var b h) refl
+
+goes-back : (m : List ℕ) (n : ℕ) → n < length m → goesByte (partOf m n) ≡ getD m n 0
+goes-back m n h = go (either (eqb (getD m n 0) 255))
+  where
+    go : (eqb (getD m n 0) 255 ≡ true) ⊎ (eqb (getD m n 0) 255 ≡ false) → goesByte (partOf m n) ≡ getD m n 0
+    go (inl e) = rw (part-none m n h (eqb-true _ _ e)) (sym (eqb-true _ _ e))
+    go (inr e) = rw (part-some m n h (eqb-false _ _ e)) (byte-back (getD m n 0))
+
+pub map-held : (m : List ℕ) (k : ℕ) → length m ≡ k → mapBytes k (partOf m) ≡ m
+unfolding mapBytes
+map-held m k e =
+    rw (← e)
+    (numbers-are (λ v. goesByte (partOf m v)) 0 m
+    (λ j lt. ap (λ v. goesByte (partOf m v)) (omega arith) ∙ goes-back m j lt))
+
+-- what a search from nowhere leaves
+pub searched-map : (o : Option Part) (m : List ℕ) (r : Bool) → length m ≡ 64 → Searched o (replicate 64 255) m r
+    → m ≡ mapOr 64 o
+searched-map o m true l s = sym (map-held m 64 l) ∙ ap (mapOr 64) (s .finds)
+searched-map o m false l s = s .back refl ∙ ap (mapOr 64) (s .finds)
+
+-- no variable goes anywhere
+pub nowhere-map : (k : ℕ) → mapBytes k nowhere ≡ replicate k 255
+nowhere-map k = ap (mapBytes k) (sym (part-nowhere k)) ∙ map-held (replicate k 255) k (length-replicate k 255)

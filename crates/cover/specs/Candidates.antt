@@ -1,20 +1,24 @@
 -- How the search goes from candidate to candidate, in the words of its own functions. That the look-ahead changes no
--- answer, and that a question is covered exactly where some candidate of its first atom serves, is in `proofs/Ahead`.
-use mathlib.Core.Bool.{Bool, true}
+-- answer, and that the first map is that of the first candidate of the first atom that serves, is in `proofs/Ahead`.
+use mathlib.Core.Bool.{Bool}
 use mathlib.Core.List.{[], _∷_}
-use mathlib.Core.Option.{Option}
+use mathlib.Core.Option.{Option, some}
 use Rattle.covering.specs.Lists.{any, isSome, bind, firstOf}
 use Rattle.covering.specs.Term.{Atom, Question}
-use Rattle.covering.specs.Search.{Part, nowhere, placeAtom, findMap}
+use Rattle.covering.specs.Search.{Part, placeAtom, findMap}
+
+-- the atom a is placed on b, and A after it
+unfoldable pub placedOn : Atom → Question → Question → Part → Atom → Option Part
+placedOn a A B p b = bind (placeAtom p a b) (findMap A B)
+
+-- the same of A's first atom, where it has one: what is asked of one candidate at a time
+unfoldable pub foundOn : Question → Question → Part → Atom → Option Part
+foundOn [] B p b = some p
+foundOn (a ∷ A) B p b = placedOn a A B p b
 
 -- the next atom a is tried on the candidates C, one after the other; A is left after it
 unfoldable pub tried : Atom → Question → Question → Question → Part → Option Part
-tried a A B C p = firstOf (λ b. bind (placeAtom p a b) (findMap A B)) C
-
--- the same with A's first atom on the atom b of B: what is asked of one candidate at a time
-unfoldable pub coversOn : Question → Question → Atom → Bool
-coversOn [] B b = true
-coversOn (a ∷ A) B b = isSome (tried a A B (b ∷ []) nowhere)
+tried a A B C p = firstOf (placedOn a A B p) C
 
 -- the atom has a candidate in B: one that it can be placed on, as the map is now
 unfoldable pub hasCandidate : Part → Question → Atom → Bool

@@ -10,7 +10,7 @@ ghost use lib.Dec.{T};
 ghost use lib.ListN.{length, getD};
 ghost use Rattle.covering.specs.Lists.{all};
 ghost use Rattle.covering.specs.Search.{findMap, covers};
-ghost use Rattle.cover.specs.Candidates.{tried, coversOn, hasCandidate};
+ghost use Rattle.cover.specs.Candidates.{placedOn, foundOn, hasCandidate};
 ghost use Rattle.covering.specs.Record.{stored, isAtom, atomAt, atomsAt, questionOf, SoundRecord};
 ghost use Rattle.cover.specs.HeldMap.{partOf, Searched};
 ghost use Rattle.covering.specs.Buffer.{AtomsIn};
@@ -61,13 +61,19 @@ fn all_have(first: &[u8], second: &[u8], map: &[u8], i: usize, left: usize, w: u
     true
 }
 
-// Takes the next atom: places the `left` atoms of first from i on, in order, on the w atoms of second. A branch in
-// which some atom has no candidate any more ends at once; that changes no answer.
-fn place_next(first: &[u8], second: &[u8], map: &mut [u8], i: usize, left: usize, w: usize) -> bool
+// Takes the next atom: places the `left` atoms of first from i on, in order, on the w atoms of second, the next one on
+// the first candidate from which those after it can be placed too. A branch in which some atom has no candidate any more
+// ends at once; that changes no answer.
+pub fn place_next(
+    first: &[u8],
+    second: &[u8],
+    map: &mut [u8],
+    i: usize,
+    left: usize,
+    w: usize,
+) -> bool
     requires { ⌜ (length (now map) ≡ 64)
         × AtomsIn stored (now first) i left
-        × (left ≤ 12)
-        × (w ≤ 12)
         × (1 + w * 5 ≤ length (now second)) ⌝ }
     ensures { λ r. ⌜ Searched
         (findMap
@@ -84,11 +90,20 @@ fn place_next(first: &[u8], second: &[u8], map: &mut [u8], i: usize, left: usize
     if !all_have(first, second, map, i, left, w) {
         return false;
     }
-    try_candidate(first, second, map, i, left - 1, 1, w, w)
+    let mut k = 1;
+    let mut more = w;
+    while 0 < more {
+        if try_candidate(first, second, map, i, left - 1, k, w) {
+            return true;
+        }
+        k += 5;
+        more -= 1;
+    }
+    false
 }
 
-// Tries the next candidate: the atom of first at i goes to the first of the `more` atoms of second from k on from
-// which the `left` atoms after it can be placed too.
+// Tries the next candidate: the atom of first at i goes to the atom of second at k, and the `left` atoms after it are
+// placed; where they cannot be, it is taken back.
 fn try_candidate(
     first: &[u8],
     second: &[u8],
@@ -96,52 +111,32 @@ fn try_candidate(
     i: usize,
     left: usize,
     k: usize,
-    more: usize,
     w: usize,
 ) -> bool
     requires { ⌜ (length (now map) ≡ 64)
         × AtomsIn stored (now first) i (left + 1)
-        × (left < 12)
-        × (more ≤ w)
-        × (w ≤ 12)
-        × (k + more * 5 ≤ length (now second))
+        × (k + 5 ≤ length (now second))
         × (1 + w * 5 ≤ length (now second)) ⌝ }
     ensures { λ r. ⌜ Searched
-        (tried
+        (placedOn
         (atomAt stored (now (first .entry)) i)
         (atomsAt stored (now (first .entry)) (i + 5) left)
         (atomsAt stored (now (second .entry)) 1 w)
-        (atomsAt stored (now (second .entry)) k more)
-        (partOf (now (map .entry))))
+        (partOf (now (map .entry)))
+        (atomAt stored (now (second .entry)) k))
         (now (map .entry))
         (now (map .exit))
         r ⌝ }
 {
-    if more == 0 {
-        return false;
-    }
     if !meets(first, second, map, i, k) {
-        return try_candidate(first, second, map, i, left, k + 5, more - 1, w);
+        return false;
     }
     let before = send(first, second, map, i + 1, k + 1);
     if place_next(first, second, map, i + 5, left, w) {
         return true;
     }
     take_back(first, map, i + 1, before);
-    try_candidate(first, second, map, i, left, k + 5, more - 1, w)
-}
-
-// Whether the n atoms of first after its count byte cover the w of second.
-pub fn covers_atoms(first: &[u8], n: usize, second: &[u8], w: usize) -> bool
-    requires { ⌜ AtomsIn stored (now first) 1 n
-        × AtomsIn stored (now second) 1 w
-        × (n ≤ 12)
-        × (w ≤ 12) ⌝ }
-    ensures { λ r. ⌜ r
-        ≡ covers (atomsAt stored (now (first .entry)) 1 n) (atomsAt stored (now (second .entry)) 1 w) ⌝ }
-{
-    let mut map = [255u8; 64];
-    place_next(first, second, &mut map, 1, n, w)
+    false
 }
 
 // Whether the first record covers the second, where both are known to be sound and count all their atoms.
@@ -150,23 +145,31 @@ pub fn covers_sound(first: &[u8], second: &[u8]) -> bool
     ensures { λ r. ⌜ r
         ≡ covers (questionOf stored (now (first .entry))) (questionOf stored (now (second .entry))) ⌝ }
 {
-    covers_atoms(first, first[0] as usize, second, second[0] as usize)
-}
-
-// The same with first's first atom, which it has, on atom k of second: what a loop over candidates asks.
-pub fn covers_on(first: &[u8], second: &[u8], k: usize) -> bool
-    requires { ⌜ SoundRecord stored (now first)
-        × SoundRecord stored (now second)
-        × (k < getD (now second) 0 0)
-        × (1 ≤ getD (now first) 0 0) ⌝ }
-    ensures { λ r. ⌜ r
-        ≡ coversOn
-        (questionOf stored (now (first .entry)))
-        (questionOf stored (now (second .entry)))
-        (atomAt stored (now (second .entry)) (1 + k * 5)) ⌝ }
-{
     let n = first[0] as usize;
     let w = second[0] as usize;
     let mut map = [255u8; 64];
-    try_candidate(first, second, &mut map, 1, n - 1, 1 + k * 5, 1, w)
+    place_next(first, second, &mut map, 1, n, w)
+}
+
+// The same with first's first atom, which it has, on atom k of second: what a loop over candidates asks. The map is
+// lent, so that it is found once.
+pub fn covers_on(first: &[u8], second: &[u8], map: &mut [u8], k: usize) -> bool
+    requires { ⌜ SoundRecord stored (now first)
+        × SoundRecord stored (now second)
+        × (length (now map) ≡ 64)
+        × (k < getD (now second) 0 0)
+        × (1 ≤ getD (now first) 0 0) ⌝ }
+    ensures { λ r. ⌜ Searched
+        (foundOn
+        (questionOf stored (now (first .entry)))
+        (questionOf stored (now (second .entry)))
+        (partOf (now (map .entry)))
+        (atomAt stored (now (second .entry)) (1 + k * 5)))
+        (now (map .entry))
+        (now (map .exit))
+        r ⌝ }
+{
+    let n = first[0] as usize;
+    let w = second[0] as usize;
+    try_candidate(first, second, map, 1, n - 1, 1 + k * 5, w)
 }

@@ -2,8 +2,8 @@
 -- one that has atoms covers none of these. Assumes nothing.
 use mathlib.Core.Path.{_≡_, refl}
 use mathlib.Core.Bool.{true, false}
-use mathlib.Core.List.{List, [], _∷_, map, List·Memᴰ·head, List·Memᴰ·not-nil}
-use Rattle.covering.specs.Term.{Term, Atom, Question, Sub, on-term}
+use mathlib.Core.List.{[], _∷_, map, List·Memᴰ·head, List·Memᴰ·not-nil}
+use Rattle.covering.specs.Term.{Atom, Question, Sub, on-term}
 use Rattle.covering.specs.Asking.{Asking}
 use Rattle.covering.specs.Covers.{Covers, CoversAsking}
 use Rattle.covering.specs.Search.{findMap, firstMap, covers}

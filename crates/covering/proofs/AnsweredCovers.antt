@@ -12,12 +12,14 @@ use Rattle.covering.specs.Lists.{_∈_}
 use Rattle.covering.specs.Term.{Term, Atom, Question, on-term, on-atom}
 use Rattle.covering.specs.Asking.{Asking, answerAtom, withAnswer, joined, records, NoRecord}
 use Rattle.covering.specs.Covers.{Covers, CoversAsking}
-use Rattle.covering.specs.Desk.{coversAsking}
-use Rattle.covering.proofs.Tests.{either, both, fst-of, snd-of, true→T}
+use Rattle.covering.specs.Desk.{coversAsking, coveringMap}
+use Rattle.covering.proofs.Tests.{either, both, fst-of, snd-of, true→T, false→no}
+use Rattle.covering.proofs.Lists.{none-of}
 use Rattle.covering.proofs.Terms.{atom-path}
 use Rattle.covering.proofs.Decides.{covers-decides}
-use mathlib.Core.Bool.{Bool, true, false, _&&_}
-use Rattle.covering.specs.Search.{covers}
+use mathlib.Core.Bool.{Bool, true, false, cond}
+use mathlib.Core.Option.{none}
+use Rattle.covering.specs.Search.{firstMap, covers}
 
 -- as conjunctions, for answers of as many terms
 to-joined : (ts us : List Term) (A C : Question) → CoversAsking (record { answer = ts; atoms = A }) (record { answer = us; atoms = C })
@@ -71,10 +73,6 @@ asking-decides p q f g = (
 
 -- What the code asks: as many answer records, then the conjunctions. Two answer records with other numbers of places
 -- never meet.
-and-false : (b : Bool) → (b && false) ≡ false
-and-false true = refl
-and-false false = refl
-
 as-many : (ts us : List Term) (A C : Question) → NoRecord C → records ts ≡ records us
     → Covers (withAnswer ts A) (withAnswer us C) → length ts ≡ length us
 as-many [] [] A C g e c = refl
@@ -90,17 +88,26 @@ as-many (t ∷ ts) (u ∷ us) A C g e c =
     first (inr m) = absurd (g _ m refl)
 
 pub same-records : (p q : Asking) → NoRecord (q .atoms) → records (p .answer) ≡ records (q .answer)
-    → coversAsking p q ≡ covers (joined p) (joined q)
+    → coveringMap p q ≡ firstMap (joined p) (joined q)
+unfolding covers
 same-records p q g e = go (either (covers (joined p) (joined q)))
   where
+    n : Bool
+    n = eqb (length (p .answer)) (length (q .answer))
+
+    none-both : (b : Bool) → firstMap (joined p) (joined q) ≡ none
+        → cond b (firstMap (joined p) (joined q)) none ≡ firstMap (joined p) (joined q)
+    none-both true f = refl
+    none-both false f = sym f
+
     go : (covers (joined p) (joined q) ≡ true) ⊎ (covers (joined p) (joined q) ≡ false)
-        → coversAsking p q ≡ covers (joined p) (joined q)
+        → coveringMap p q ≡ firstMap (joined p) (joined q)
     go (inl y) =
         let l = as-many (p .answer) (q .answer) (p .atoms) (q .atoms) g e (covers-decides (joined p) (joined q) .0 (true→T _ y)) in
         rw (eq-eqb (length (p .answer)) (length (q .answer)) l)
-    go (inr n) = rw n (and-false (eqb (length (p .answer)) (length (q .answer))))
+    go (inr f) = none-both n (none-of (firstMap (joined p) (joined q)) (false→no _ f))
 
-pub other-records : (p q : Asking) → (records (p .answer) ≡ records (q .answer) → ⊥) → coversAsking p q ≡ false
+pub other-records : (p q : Asking) → (records (p .answer) ≡ records (q .answer) → ⊥) → coveringMap p q ≡ none
 other-records p q ne =
     rw (ne-eqb (length (p .answer)) (length (q .answer)) (λ e. ne (go (p .answer) (q .answer) e)))
   where

@@ -21,7 +21,7 @@ abbrev pub Respects : Sub → Part → Type 0
 Respects s p = (n : ℕ) (t : Term) → p n ≡ some t → s n ≡ t
 
 -- if a step yields q, then whatever does what q says does what p says, and has X
-abbrev Tells : Part → Option Part → (Sub → Type 0) → Type 0
+abbrev pub Tells : Part → Option Part → (Sub → Type 0) → Type 0
 Tells p o X = (q : Part) → o ≡ some q → (s : Sub) → Respects s q → Respects s p × X s
 
 -- a step yields a map, and s does what it says
@@ -111,7 +111,7 @@ terms-yield s p (t ∷ ts) (u ∷ us) e k =
       respects = two .respects;
     }
 
-atom-tells : (p : Part) (a b : Atom) → Tells p (placeAtom p a b) (λ s. on-atom s a ≡ b)
+pub atom-tells : (p : Part) (a b : Atom) → Tells p (placeAtom p a b) (λ s. on-atom s a ≡ b)
 atom-tells p a b q e s k = go (decide (eqb (a .rel) (b .rel)))
   where
     r : Option Part
@@ -135,10 +135,10 @@ atom-yields s p a b e k =
     }
 
 -- the search
-total : Part → Sub
+pub total : Part → Sub
 total p n = Option·getD (p n) (var n)
 
-total-respects : (p : Part) → Respects (total p) p
+pub total-respects : (p : Part) → Respects (total p) p
 unfolding total
 total-respects p n t e = ap (λ (o : Option Term). Option·getD o (var n)) e
 

@@ -30,6 +30,18 @@ wide = p (var 0 ∷ var 1 ∷ [])
 abbrev twice : Question
 twice = p (var 0 ∷ var 0 ∷ [])
 
+-- p(v0,v1) p(v1,v2), and p(c0,c1) p(c1,c0)
+abbrev path : Question
+path = p (var 0 ∷ var 1 ∷ []) ++ p (var 1 ∷ var 2 ∷ [])
+
+abbrev ring : Question
+ring = p (con 0 ∷ con 1 ∷ []) ++ p (con 1 ∷ con 0 ∷ [])
+
+-- of the path's two maps to the ring the first has v0 go to c0: its first atom is placed first
+pub first-atom-first : bind (firstMap path ring) (λ m. m 0) ≡ some (con 0)
+unfolding findMap firstMap
+first-atom-first = refl
+
 -- an atom goes to one with as many places; two variables may go to one term, one variable goes to one; of two
 -- candidates the first is taken
 pub maps-hold : (covers general wide ≡ false) × (covers wide twice ≡ true) × (covers twice wide ≡ false)

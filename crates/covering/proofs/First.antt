@@ -43,7 +43,7 @@ firstOf-gather f g [] = refl
 firstOf-gather f g (x ∷ xs) =
     firstOf-append f (g x) (gather g xs) ∙ ap (orElse (firstOf f (g x))) (firstOf-gather f g xs)
 
-firstOf-same : {X Y : Type 0} (f g : X → Option Y) (l : List X) → ((x : X) → f x ≡ g x) → firstOf f l ≡ firstOf g l
+pub firstOf-same : {X Y : Type 0} (f g : X → Option Y) (l : List X) → ((x : X) → f x ≡ g x) → firstOf f l ≡ firstOf g l
 firstOf-same f g [] h = refl
 firstOf-same f g (x ∷ xs) h = ap₂ orElse (h x) (firstOf-same f g xs h)
 

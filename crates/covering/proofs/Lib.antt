@@ -9,6 +9,8 @@ pub mod Terms
 pub mod Preorder
 pub mod Decides
 pub mod First
+pub mod FirstMap
+pub mod OneFirst
 -- the form of a question
 pub mod Form
 pub mod Sifted

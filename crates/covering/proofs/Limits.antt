@@ -4,11 +4,13 @@ use mathlib.Core.Path.{_≡_, refl}
 use mathlib.Core.Bool.{true, false}
 use mathlib.Core.List.{List, [], _∷_, _++_}
 use Prim.Native.Nat.{ℕ}
+use lib.ListN.{replicate}
 use Rattle.covering.specs.Lists.{gather, numbers}
 use Rattle.covering.specs.Search.{findMap, firstMap, covers}
 use Rattle.covering.specs.Record.{desk, termOf, argsAt, atomAt, atomsAt, isTerm, unused, usedFirst, arePlaces}
 use Rattle.covering.specs.Record.{isRelation, isAtom, areAtoms, hasAnswer, askingOf, isRecord, recordOf}
-use Rattle.covering.specs.Desk.{coversAnswer, the-first, the-second, neither, which}
+use Rattle.covering.specs.Desk.{coversAnswer, coversMap, the-first, the-second, neither, which, keptMap}
+use Rattle.covering.specs.FirstMap.{mapBytes}
 
 -- an atom with one place used, and with two
 abbrev atom : ℕ → ℕ → List ℕ
@@ -71,3 +73,11 @@ pub keeping-holds : (which (recordOf desk plain) (recordOf desk (one 0 128)) ≡
 unfolding isTerm unused usedFirst arePlaces isRelation isAtom areAtoms hasAnswer isRecord recordOf askingOf termOf argsAt
     atomAt atomsAt findMap firstMap covers
 keeping-holds = (refl, refl, refl, refl)
+
+-- the map's bytes: c0 for v0 and 255 for the other 63; all 255 where the answer is not yes; of the one that is kept
+pub maps-told : (coversMap desk plain (one 0 128) ≡ 128 ∷ replicate 63 255) × (coversMap desk (one 0 128) plain ≡ replicate 64 255)
+    × (coversMap desk [] plain ≡ replicate 64 255)
+    × (keptMap desk (one 0 128) plain ≡ 128 ∷ replicate 63 255) × (keptMap desk plain asked ≡ replicate 64 255)
+unfolding isTerm unused usedFirst arePlaces isRelation isAtom areAtoms hasAnswer isRecord recordOf askingOf termOf argsAt
+    atomAt atomsAt findMap firstMap covers coversMap keptMap mapBytes
+maps-told = (refl, refl, refl, refl, refl)

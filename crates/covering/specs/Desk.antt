@@ -1,4 +1,4 @@
--- The search desk's two operations (01, "The search desk's covering").
+-- The search desk's operations (01, "The search desk's covering").
 use mathlib.Core.Path.{_≡_}
 use mathlib.Core.Bool.{Bool, cond, _&&_}
 use mathlib.Core.List.{List, []}
@@ -8,8 +8,9 @@ use lib.Dec.{eqb}
 use lib.ListN.{length}
 use denote.Ref.{RefT, now, ptr}
 use Rattle.covering.specs.Asking.{Asking, joined}
-use Rattle.covering.specs.Search.{covers}
+use Rattle.covering.specs.Search.{Part, firstMap, covers}
 use Rattle.covering.specs.Record.{Layout, recordOf}
+use Rattle.covering.specs.FirstMap.{mapOr}
 
 -- Whether one covers the other (`CoversAsking`, `proofs/AnsweredCovers`). Conjunctions do not tell that "only one does",
 -- have answer places: p(v0) covers a(c0) p(c0) as they do; so this is a test of its own.
@@ -25,6 +26,19 @@ coversNumber (some p) (some q) = cond (coversAsking p q) 1 0
 -- "It takes two member records and answers if the first covers the second"
 unfoldable pub coversAnswer : Layout → List ℕ → List ℕ → ℕ
 coversAnswer L first second = coversNumber (recordOf L first) (recordOf L second)
+
+-- "Covering is to give the map it found" (02, f): the first, and none where the answer is not yes
+abbrev pub coveringMap : Asking → Asking → Option Part
+coveringMap p q = cond (eqb (length (p .answer)) (length (q .answer))) (firstMap (joined p) (joined q)) none
+
+abbrev pub foundMap : Option Asking → Option Asking → Option Part
+foundMap none b = none
+foundMap (some p) none = none
+foundMap (some p) (some q) = coveringMap p q
+
+-- a byte for each variable of the first record
+unfoldable pub coversMap : Layout → List ℕ → List ℕ → List ℕ
+coversMap L first second = mapOr (L .variables) (foundMap (recordOf L first) (recordOf L second))
 
 -- "The desk also asks which of two records to keep"
 pub data Chosen : Type 0 where
@@ -47,6 +61,18 @@ chosenNumber the-second = 2
 
 unfoldable pub keptAnswer : Layout → List ℕ → List ℕ → ℕ
 keptAnswer L first second = chosenNumber (which (recordOf L first) (recordOf L second))
+
+-- the map by which the one that is kept covers the other
+abbrev pub chosenMap : Chosen → Option Asking → Option Asking → Option Part
+chosenMap the-first a b = foundMap a b
+chosenMap the-second a b = foundMap b a
+chosenMap neither a b = none
+
+unfoldable pub keptMap : Layout → List ℕ → List ℕ → List ℕ
+keptMap L first second =
+    let a = recordOf L first in
+    let b = recordOf L second in
+    mapOr (L .variables) (chosenMap (which a b) a b)
 
 abbrev pub keptBytes : Chosen → List ℕ → List ℕ → List ℕ
 keptBytes the-first a b = a

@@ -8,6 +8,7 @@ pub mod Covers
 pub mod Search
 pub mod Form
 pub mod Record
+pub mod FirstMap
 pub mod Desk
 -- What only contracts of the code above are said with; the definitions above do not need it.
 pub mod Buffer

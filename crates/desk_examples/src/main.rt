@@ -17,7 +17,8 @@ fn main() {
 pub fn show<'a>(name: &[u8], first: &'a [u8], second: &'a [u8]) {
     io::write_all(1, name);
     io::write_all(1, b": ");
-    io::print_decimal(1, cover::covers(first, second) as u64);
+    let covered = cover::covers(first, second);
+    io::print_decimal(1, covered.number as u64);
     io::write_all(1, b", keeps");
     numbers(cover::keep(first, second));
     io::write_all(1, b"\n");

@@ -1,9 +1,15 @@
 // What programs in Rust and in C call, one exported function for each operation that the office is offered. Each returns
-// the answer's number; every further number goes to a word that the caller lends.
+// the answer's number; every further number goes to a word that the caller lends, each array to a lent buffer, as many of
+// its bytes as that has room for.
 ghost use mathlib.Core.Path.{_≡_};
+ghost use mathlib.Core.Bool.{cond};
+ghost use Prim.Native.Nat.{ℕ};
+ghost use lib.Dec.{ltb};
+ghost use lib.ListN.{length};
 ghost use Rattle.covering.specs.Record.{desk};
-ghost use Rattle.covering.specs.Desk.{coversAnswer, keptAnswer};
+ghost use Rattle.covering.specs.Desk.{coversAnswer, coversMap, keptAnswer, keptMap};
 ghost use Rattle.exploration.specs.Answer.{Answers};
+ghost use Rattle.library.specs.Lent.{lent};
 
 // The union of a book's question, or why there is none; its place.
 #[no_mangle]
@@ -20,18 +26,51 @@ pub extern "C" fn rauntiko_run(book: &[u8], out: &mut [u8], place: &mut usize) -
     answer.number
 }
 
-// Whether the first record covers the second: 0 no, 1 yes, 2 the first is malformed, 3 the second is.
-#[no_mangle]
-pub extern "C" fn rauntiko_covers(first: &[u8], second: &[u8]) -> u8
-    ensures { λ r. ⌜ r ≡ coversAnswer desk (now (first .entry)) (now (second .entry)) ⌝ }
+// The lesser of two numbers.
+fn lesser(a: usize, b: usize) -> usize
+    ensures { λ r. ⌜ r ≡ cond (ltb a b) a b ⌝ }
 {
-    cover::covers(first, second)
+    if a < b {
+        return a;
+    }
+    b
 }
 
-// Which of two records to keep: 1 the first, where it covers the second; 2 the second, where it alone covers; else 0.
-#[no_mangle]
-pub extern "C" fn rauntiko_kept(first: &[u8], second: &[u8]) -> u8
-    ensures { λ r. ⌜ r ≡ keptAnswer desk (now (first .entry)) (now (second .entry)) ⌝ }
+// Copies as many of the bytes as there is room for.
+fn lend(bytes: &[u8], room: &mut [u8])
+    ensures { λ _. ⌜ now (room .exit) ≡ lent (now (bytes .entry)) (now (room .entry)) ⌝ }
 {
-    cover::kept(first, second)
+    let n = lesser(room.len(), bytes.len());
+    let mut i = 0;
+    while i < n {
+        room[i] = bytes[i];
+        i += 1;
+    }
+}
+
+// Whether the first record covers the second: 0 no, 1 yes, 2 the first is malformed, 3 the second is; and the first map.
+#[no_mangle]
+pub extern "C" fn rauntiko_covers(first: &[u8], second: &[u8], map: &mut [u8]) -> u8
+    ensures { λ r. ⌜ (r ≡ coversAnswer desk (now (first .entry)) (now (second .entry)))
+        × (now (map .exit)
+        ≡ lent (coversMap desk (now (first .entry)) (now (second .entry))) (now (map .entry))) ⌝ }
+{
+    let covered = cover::covers(first, second);
+    let found = covered.map;
+    lend(&found, map);
+    covered.number
+}
+
+// Which of two records to keep: 1 the first, where it covers the second; 2 the second, where it alone covers; else 0;
+// and the map by which it covers the other.
+#[no_mangle]
+pub extern "C" fn rauntiko_kept(first: &[u8], second: &[u8], map: &mut [u8]) -> u8
+    ensures { λ r. ⌜ (r ≡ keptAnswer desk (now (first .entry)) (now (second .entry)))
+        × (now (map .exit)
+        ≡ lent (keptMap desk (now (first .entry)) (now (second .entry))) (now (map .entry))) ⌝ }
+{
+    let kept = cover::kept(first, second);
+    let found = kept.map;
+    lend(&found, map);
+    kept.which
 }

@@ -1,7 +1,7 @@
 -- `admit::admitting::admit` meets its contract: at each return, what became of the rewriting.
 use borrow.Author.Needs.{needs}
 use native.Mathlib.Omega.{arith}
-use mathlib.Core.Path.{_≡_}
+use mathlib.Core.Path.{_≡_, refl}
 use Prim.Native.Nat.{ℕ, _+_, _≤_}
 use lib.ListN.{length}
 use Rattle.covering.specs.Term.{Question}
@@ -21,10 +21,10 @@ use Rattle.admit.proofs.admitting.admit.Tie as tie
 -- points of the walk: where the function began, where no member was found to cover the rewriting, and where those that
 -- it covers are removed
 abbrev start : tie.Else1 → tie.Start
-start e = e .before .before .before .before .before .before
+start e = e .before .before .before .before .before .before .before .before
 
 abbrev found : tie.Else1 → ℕ
-found e = e .before .before .member-covering .result
+found e = e .before .before .before .member-covering .result
 
 abbrev looked : tie.After-remove-covered → tie.Else1
 looked r = r .before .before .before .before
@@ -34,7 +34,7 @@ question e = questionOf stored (start e .args .rewriting .now)
 
 first : (e : tie.Else1)
     → found e ≡ beforeCovering covers (question e) (heldFrom (start e .args .work .now) firstAt (start e .args .filled .count))
-first e = e .before .before .member-covering .ensures
+first e = e .before .before .before .member-covering .ensures .0
 
 -- it is short enough, and there is a working array without what it covers
 short : (r : tie.After-remove-covered) → length (question (looked r)) ≤ 8 + start (looked r) .args .answers
@@ -43,16 +43,21 @@ short r = omega (arith, question-count stored (start (looked r) .args .rewriting
 fits : (r : tie.After-remove-covered) → Fits stored (question (looked r))
 fits r = sound-stored _ (start (looked r) .pre .1)
 
+slice-aggregate-member-covering : tie.Need-slice-aggregate-member-covering
+slice-aggregate-member-covering c = search needs
+
 member-covering-requires : tie.Need-member-covering-requires
-member-covering-requires c κs = let b = c .before .before .before in (b .pre .0 .few, stands-all (b .pre .0), b .pre .1)
+member-covering-requires c κs =
+    let b = c .before .before .before .before in
+    (b .pre .0 .few, stands-all (b .pre .0), b .pre .1, refl)
 
 same-length : tie.Need-same-length
 same-length c = search needs
 
 returns : tie.Need-returns
 returns c =
-    let b = c .before .before .before .before .before .before in
-    fate-dropped (b .args .answers) (b .pre .2) (b .pre .0) _ _ (c .before .before .member-covering .ensures) (c .if1 .taken)
+    let b = c .before .before .before .before .before .before .before .before in
+    fate-dropped (b .args .answers) (b .pre .2) (b .pre .0) _ _ (c .before .before .before .member-covering .ensures .0) (c .if1 .taken)
 
 add-if2 : tie.Need-add-if2
 add-if2 c = omega (arith, start c .pre .2)
@@ -92,8 +97,8 @@ append-requires c κs =
     (c .before .if3 .left) in
     (start e .pre .1, omega (arith, room, begun-long stored (start e .args .rewriting .now), kept .0 .held .size))
 
-add-t7 : tie.Need-add-t7
-add-t7 c = search needs
+add-t8 : tie.Need-add-t8
+add-t8 c = search needs
 
 same-length-4 : tie.Need-same-length-4
 same-length-4 c = search needs
@@ -111,6 +116,7 @@ pub admit-spec : {M : Type 1} → statement M
 admit-spec =
     tie.close
     (tie.spec
+    slice-aggregate-member-covering
     member-covering-requires
     same-length
     returns
@@ -122,6 +128,6 @@ admit-spec =
     same-length-3
     returns-3
     append-requires
-    add-t7
+    add-t8
     same-length-4
     returns-4)

@@ -1,22 +1,24 @@
--- `admit::searching::member_covering` meets its contract. The outer loop's invariant: the first covering member is so
--- many members after the one at hand as it is among those left; the inner one's: the member at hand covers exactly
--- where one of the candidates left serves. The measures are the numbers of members and of candidates left.
+-- `admit::searching::member_covering` meets its contract. The outer loop's invariant: the map is as it came, and the
+-- first covering member is so many members after the one at hand as it is among those left, by the same map; the inner
+-- one's: the first map of the member at hand is that of the first of the candidates left that serves. The measures are
+-- the numbers of members and of candidates left.
 use borrow.Author.Needs.{needs}
 use native.Mathlib.Omega.{arith}
 use native.Mathlib.Nat.{sub-zero, zero-add}
-use mathlib.Core.Path.{_≡_, sym, _∙_, subst}
+use mathlib.Core.Path.{_≡_, refl, sym, ap, _∙_, subst}
 use Prim.Native.Nat.{ℕ, suc, _+_, _*_, _-_, _≤_}
 use mathlib.Core.List.{List}
-use lib.ListN.{getD, drop}
-use Rattle.covering.specs.Lists.{any}
-use Rattle.covering.specs.Search.{covers}
-use Rattle.cover.specs.Candidates.{coversOn}
+use lib.ListN.{length, getD, drop, replicate}
+use Rattle.covering.specs.Lists.{isSome, firstOf}
+use Rattle.covering.specs.Search.{nowhere, firstMap, covers}
+use Rattle.covering.specs.FirstMap.{mapOr}
+use Rattle.cover.specs.Candidates.{foundOn}
 use Rattle.covering.specs.Record.{stored, atomsAt, questionOf, SoundRecord}
-use Rattle.exploration.specs.Held.{heldFrom}
-use Rattle.admit.specs.WorkingArray.{beforeCovering}
-use Rattle.exploration.specs.Held.{Standing}
-use Rattle.admit.proofs.Finding.{any-end, any-hit, any-miss, covers-one, covers-none, first-end, first-hit}
-use Rattle.admit.proofs.Finding.{first-miss}
+use Rattle.exploration.specs.Held.{heldFrom, Standing}
+use Rattle.admit.specs.WorkingArray.{beforeCovering, coveredBy}
+use Rattle.admit.proofs.Finding.{maps-end, maps-hit, maps-miss, map-one, map-none, first-end, first-hit}
+use Rattle.admit.proofs.Finding.{first-miss, by-end, by-hit, by-miss, on-nowhere, found-here, covers-is}
+use Rattle.cover.proofs.Maps.{searched-map, nowhere-map}
 use Rattle.exploration.proofs.Members.{count-from}
 use Rattle.exploration.proofs.Standing.{Here, stands}
 use Rattle.covering.proofs.Slices.{part-is}
@@ -24,33 +26,37 @@ use Rattle.admit.proofs.searching.member_covering.Statement.{statement}
 use Rattle.admit.proofs.searching.member_covering.Tie as tie
 
 abbrev Inv-atoms : tie.InvT-atoms
-Inv-atoms work count rewriting w at i width member k₀ k =
+Inv-atoms work count rewriting map₀ w at i width member k₀ map k =
     (k ≤ w)
-    × (covers (questionOf stored (drop at work)) (questionOf stored rewriting)
-    ≡ any (coversOn (questionOf stored (drop at work)) (questionOf stored rewriting))
+    × (map ≡ replicate 64 255)
+    × (firstMap (questionOf stored (drop at work)) (questionOf stored rewriting)
+    ≡ firstOf (foundOn (questionOf stored (drop at work)) (questionOf stored rewriting) nowhere)
     (atomsAt stored rewriting (1 + k * 5) (w - k)))
 
-abbrev μ-atoms : tie.MeasureT-atoms
-μ-atoms work count rewriting w at i width member k₀ k = w - k
-
 abbrev Inv-members : tie.InvT-members
-Inv-members work count rewriting w at₀ i₀ at i =
+Inv-members work count rewriting map₀ w at₀ i₀ map at i =
     (i ≤ count)
     × Standing work at (count - i)
     × (beforeCovering covers (questionOf stored rewriting) (heldFrom work 8 count)
     ≡ i + beforeCovering covers (questionOf stored rewriting) (heldFrom work at (count - i)))
+    × (map ≡ replicate 64 255)
+    × (coveredBy (questionOf stored rewriting) (heldFrom work 8 count)
+    ≡ coveredBy (questionOf stored rewriting) (heldFrom work at (count - i)))
+
+abbrev μ-atoms : tie.MeasureT-atoms
+μ-atoms work count rewriting map₀ w at i width member k₀ map k = w - k
 
 abbrev μ-members : tie.MeasureT-members
-μ-members work count rewriting w at₀ i₀ at i = count - i
+μ-members work count rewriting map₀ w at₀ i₀ map at i = count - i
 
 -- where the function began, from a turn whose member has atoms
 abbrev began : tie.Else2 Inv-atoms μ-atoms Inv-members μ-members → tie.Start Inv-atoms μ-atoms Inv-members μ-members
-began c = c .before .before .before .before .before .before .before
+began c = c .before .before .before .before .before .before .before .before
 
 -- the member of this turn
 here : (c : tie.Else1 Inv-atoms μ-atoms Inv-members μ-members)
-    → Here (c .before .before .before .before .before .args .work .now) (c .before .members .at)
-    (c .before .before .before .before .before .args .count - (c .before .members .i + 1))
+    → Here (c .before .before .before .before .before .before .args .work .now) (c .before .members .at)
+    (c .before .before .before .before .before .before .args .count - (c .before .members .i + 1))
 here c = stands _ _ _ _ (c .if1 .left) (c .before .members .inv .1)
 
 -- it has an atom
@@ -66,7 +72,9 @@ cast-w : tie.Need-cast-w Inv-atoms μ-atoms Inv-members μ-members
 cast-w c = search needs
 
 members-holds : tie.Need-members-holds Inv-atoms μ-atoms Inv-members μ-members
-members-holds c = (search needs, rw sub-zero (c .before .before .before .pre .1), rw (sub-zero, zero-add))
+members-holds c =
+    let s = c .before .before .before .before in
+    (search needs, rw sub-zero (s .pre .1), rw (sub-zero, zero-add), s .pre .3, rw sub-zero refl)
 
 shared-slice-read-if2 : tie.Need-shared-slice-read-if2 Inv-atoms μ-atoms Inv-members μ-members
 shared-slice-read-if2 c = omega (arith, here (c .before))
@@ -87,16 +95,19 @@ part-member-end : tie.Need-part-member-end Inv-atoms μ-atoms Inv-members μ-mem
 part-member-end c = search needs
 
 atoms-holds : tie.Need-atoms-holds Inv-atoms μ-atoms Inv-members μ-members
-atoms-holds c = (search needs, covers-one _ _ (some (c .before .before .before)))
+atoms-holds c =
+    let e = c .before .before .before in
+    (search needs, e .before .before .before .members .inv .3, map-one _ _ (some e))
 
 covers-on-requires : tie.Need-covers-on-requires Inv-atoms μ-atoms Inv-members μ-members
 covers-on-requires c κs =
-    let e = c .before .before .before .before .before in
+    let e = c .before .before .before .before .before .before in
     let b = e .before .before in
-    let a = b .before .before .before .before .before in
+    let a = b .before .before .before .before .before .before in
     let part = sym (part-is (a .args .work .now) (b .before .members .at)) in (
       subst (SoundRecord stored) part (here b .sound),
       a .pre .2,
+      ap length (c .before .before .atoms .inv .1),
       search needs,
       subst (λ (M : List ℕ). 1 ≤ getD M 0 0) part (some e),
     )
@@ -109,17 +120,18 @@ atoms-less c = search needs
 
 atoms-again : tie.Need-atoms-again Inv-atoms μ-atoms Inv-members μ-members
 atoms-again c =
-    let b = c .before .before .before .before .before .before .before .before .before in
-    let a = b .before .before .before .before .before .args in (
+    let d = c .before .before .before in
+    let l = d .before .before .before in
+    let b = l .before .before .before .before .before .before in
+    let a = b .before .before .before .before .before .before .args in
+    let s = on-nowhere _ _ _ _ _ _ _ (l .atoms .inv .1) (part-is (a .work .now) (b .before .members .at)) (d .covers-on .ensures) in (
       search needs,
-      c .before .before .before .atoms .inv .1
-          ∙ any-miss _ _ _ _ (c .before .before .atoms-test .left)
-          (rw (part-is (a .work .now) (b .before .members .at)) at (sym (c .before .covers-on .ensures)) ∙ c .if3 .left),
+      s .back (c .if3 .left),
+      l .atoms .inv .2 ∙ maps-miss _ _ _ _ (d .before .before .atoms-test .left) (found-here s ∙ c .if3 .left),
     )
 
 add-at : tie.Need-add-at Inv-atoms μ-atoms Inv-members μ-members
-add-at c =
-    omega (arith, here (c .before .before .before .before .before .before .before), c .before .before .before .width .ensures)
+add-at c = omega (arith, here (c .before .before .before .before .before .before .before), c .before .before .before .width .ensures)
 
 add-i : tie.Need-add-i Inv-atoms μ-atoms Inv-members μ-members
 add-i c = search needs
@@ -130,52 +142,83 @@ members-less c = search needs
 members-again : tie.Need-members-again Inv-atoms μ-atoms Inv-members μ-members
 members-again c =
     let b = c .before .before .before .before .before .before .before in
-    let a = b .before .before .before .before .before .args in
+    let a = b .before .before .before .before .before .before .args in
     let W = a .work .now in
     let P = questionOf stored (a .rewriting .now) in
     let at = b .before .members .at in
     let i = b .before .members .i in
     let n = a .count in
-    let e =
-    first-miss covers P W at i n (b .if1 .left) (c .before .atoms .inv .1 ∙ any-end _ _ _ _ (c .atoms-test .taken)) in
+    let none-here = c .before .atoms .inv .2 ∙ maps-end _ _ _ _ (c .atoms-test .taken) in
     let next =
     subst
     (λ (k : ℕ).
     Standing W (at + k) (n - (i + 1))
     × (beforeCovering covers P (heldFrom W at (n - i))
-    ≡ suc (beforeCovering covers P (heldFrom W (at + k) (n - (i + 1))))))
-    (sym (c .before .before .before .width .ensures)) (here b .rest, e) in
-    (search needs, next .0, omega (arith, b .before .members .inv .2, next .1))
+    ≡ suc (beforeCovering covers P (heldFrom W (at + k) (n - (i + 1)))))
+    × (coveredBy P (heldFrom W at (n - i)) ≡ coveredBy P (heldFrom W (at + k) (n - (i + 1)))))
+    (sym (c .before .before .before .width .ensures)) (
+      here b .rest,
+      first-miss covers P W at i n (b .if1 .left) (covers-is _ _ ∙ ap isSome none-here),
+      by-miss P W at i n (b .if1 .left) (ap isSome none-here),
+    ) in
+    (search needs, next .0, omega (arith, b .before .members .inv .2, next .1), c .before .atoms .inv .1, b .before .members .inv .4 ∙ next .2)
+
+same-length : tie.Need-same-length Inv-atoms μ-atoms Inv-members μ-members
+same-length c = ap length (c .before .members .inv .3 ∙ sym (c .before .before .before .before .before .before .pre .3))
 
 returns : tie.Need-returns Inv-atoms μ-atoms Inv-members μ-members
 returns c =
-    let a = c .before .before .before .before .before .args in
+    let a = c .before .before .before .before .before .before .args in
     let e =
     first-end covers (questionOf stored (a .rewriting .now)) (a .work .now) (c .before .members .at)
     (c .before .members .i) (a .count) (c .if1 .taken) in
-    omega (arith, c .before .members .inv .2, e)
+    let f =
+    by-end (questionOf stored (a .rewriting .now)) (a .work .now) (c .before .members .at)
+    (c .before .members .i) (a .count) (c .if1 .taken) in
+    (omega (arith, c .before .members .inv .2, e), c .before .members .inv .3 ∙ ap (mapOr 64) (sym (c .before .members .inv .4 ∙ f)))
 
--- a member without atoms covers whatever comes
+same-length-2 : tie.Need-same-length-2 Inv-atoms μ-atoms Inv-members μ-members
+same-length-2 c =
+    let m = c .before .before .before in
+    ap length (m .members .inv .3 ∙ sym (m .before .before .before .before .before .pre .3))
+
 returns-2 : tie.Need-returns-2 Inv-atoms μ-atoms Inv-members μ-members
 returns-2 c =
     let b = c .before .before in
-    let a = b .before .before .before .before .before .args in
+    let a = b .before .before .before .before .before .before .args in
     let at = b .before .members .at in
+    let one = map-none (drop at (a .work .now)) (a .rewriting .now) (count-from (a .work .now) at ∙ c .if2 .taken) in
     let e =
-    first-hit covers (questionOf stored (a .rewriting .now)) (a .work .now) at _ _ (b .if1 .left)
-    (covers-none (drop at (a .work .now)) (a .rewriting .now) (count-from (a .work .now) at ∙ c .if2 .taken)) in
-    omega (arith, b .before .members .inv .2, e)
+    first-hit covers (questionOf stored (a .rewriting .now)) (a .work .now) at _ _ (b .if1 .left) (covers-is _ _ ∙ ap isSome one) in
+    let f =
+    by-hit (questionOf stored (a .rewriting .now)) (a .work .now) at _ _ (b .if1 .left) (ap isSome one) in
+    (omega (arith, b .before .members .inv .2, e), b .before .members .inv .3 ∙ sym (nowhere-map 64) ∙ ap (mapOr 64) (sym (b .before .members .inv .4 ∙ f ∙ one)))
+
+same-length-3 : tie.Need-same-length-3 Inv-atoms μ-atoms Inv-members μ-members
+same-length-3 c =
+    let d = c .before .before .before in
+    let l = d .before .before .before in
+    let b = l .before .before .before .before .before .before in
+    d .covers-on .kept .1 .1 .0 ∙ ap length (l .atoms .inv .1 ∙ sym (b .before .before .before .before .before .before .pre .3))
 
 returns-3 : tie.Need-returns-3 Inv-atoms μ-atoms Inv-members μ-members
 returns-3 c =
-    let b = c .before .before .before .before .before .before .before .before .before in
-    let a = b .before .before .before .before .before .args in
+    let d = c .before .before .before in
+    let l = d .before .before .before in
+    let b = l .before .before .before .before .before .before in
+    let a = b .before .before .before .before .before .before .args in
+    let s = on-nowhere _ _ _ _ _ _ _ (l .atoms .inv .1) (part-is (a .work .now) (b .before .members .at)) (d .covers-on .ensures) in
+    let yes = found-here s ∙ c .if3 .taken in
+    let one = l .atoms .inv .2 ∙ maps-hit _ _ _ _ (d .before .before .atoms-test .left) yes in
     let e =
     first-hit covers (questionOf stored (a .rewriting .now)) (a .work .now) (b .before .members .at) _ _ (b .if1 .left)
-    (c .before .before .before .atoms .inv .1
-    ∙ any-hit _ _ _ _ (c .before .before .atoms-test .left)
-    (rw (part-is (a .work .now) (b .before .members .at)) at (sym (c .before .covers-on .ensures)) ∙ c .if3 .taken)) in
-    omega (arith, b .before .members .inv .2, e)
+    (covers-is _ _ ∙ ap isSome one ∙ yes) in
+    let f =
+    by-hit (questionOf stored (a .rewriting .now)) (a .work .now) (b .before .members .at) _ _ (b .if1 .left) (ap isSome one ∙ yes) in (
+      omega (arith, b .before .members .inv .2, e),
+      searched-map _ _ _ (d .covers-on .kept .1 .1 .0 ∙ ap length (l .atoms .inv .1)) s
+          ∙ ap (mapOr 64) (sym (b .before .members .inv .4 ∙ f ∙ one)),
+    )
 
 pub member-covering-spec : {M : Type 1} → statement M
 member-covering-spec =
@@ -203,6 +246,9 @@ member-covering-spec =
     add-i
     members-less
     members-again
+    same-length
     returns
+    same-length-2
     returns-2
+    same-length-3
     returns-3)

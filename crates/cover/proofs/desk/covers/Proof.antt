@@ -1,13 +1,15 @@
--- `cover::desk::covers` meets its contract: the first record is judged, then the second, then the search decides.
+-- `cover::desk::covers` meets its contract: the first record is judged, then the second, then the search decides, and
+-- leaves the first map or none.
 use borrow.Author.Needs.{needs}
 use native.Mathlib.Omega.{arith}
-use mathlib.Core.Path.{_≡_, sym, ap, _∙_}
+use mathlib.Core.Path.{_≡_, refl, sym, ap, _∙_}
 use mathlib.Core.Bool.{Bool, true, cond}
 use Prim.Native.Nat.{ℕ}
 use borrow.Author.Tests.{not-true, not-false}
-use Rattle.covering.specs.Record.{desk, isRecord}
+use Rattle.covering.specs.Record.{desk, askingOf, isRecord}
 use Rattle.covering.proofs.Tests.{true→T}
-use Rattle.covering.proofs.Answers.{answer-2, answer-3, answer-covers}
+use Rattle.covering.proofs.Answers.{answer-2, answer-3, answer-covers, map-2, map-3, map-covers, yes-map}
+use Rattle.cover.proofs.Maps.{said-yes, searched-map}
 use Rattle.cover.proofs.desk.covers.Statement.{statement}
 use Rattle.cover.proofs.desk.covers.Tie as tie
 
@@ -27,38 +29,56 @@ is-record-requires : tie.Need-is-record-requires
 is-record-requires c κs = search needs
 
 returns : tie.Need-returns
-returns c = sym (answer-2 desk _ _ (sym (c .before .is-record .ensures) ∙ not-true _ (c .if1 .taken)))
+returns c =
+    let e = sym (c .before .is-record .ensures) ∙ not-true _ (c .if1 .taken) in
+    (sym (answer-2 desk _ _ e), sym (map-2 desk _ _ e))
 
 is-record-requires-2 : tie.Need-is-record-requires-2
-is-record-requires-2 c κs = search needs
+is-record-requires-2 c = search needs
 
 returns-2 : tie.Need-returns-2
 returns-2 c =
-    sym
-    (answer-3 desk _ _
-    (sym (c .before .before .before .is-record .ensures) ∙ not-false _ (c .before .before .if1 .left))
-    (sym (c .before .is-record2 .ensures) ∙ not-true _ (c .if2 .taken)))
+    let e = sym (c .before .before .before .is-record .ensures) ∙ not-false _ (c .before .before .if1 .left) in
+    let f = sym (c .before .is-record2 .ensures) ∙ not-true _ (c .if2 .taken) in
+    (sym (answer-3 desk _ _ e f), sym (map-3 desk _ _ e f))
+
+slice-aggregate-covers-record : tie.Need-slice-aggregate-covers-record
+slice-aggregate-covers-record c = search needs
 
 covers-record-requires : tie.Need-covers-record-requires
-covers-record-requires c κs =
-    let first = true→T _ (first-is c) in
-    let second = true→T _ (second-is c) in
-    search (first, second)
+covers-record-requires c κs = (true→T _ (first-is (c .before)), true→T _ (second-is (c .before)), refl)
 
--- what the search says is the answer's number
 returns-3 : tie.Need-returns-3
 returns-3 c =
-    let b = c .before .before in
+    let r = c .before .before in
+    let b = r .before .before in
     let answer = answer-covers desk _ _ (first-is b) (second-is b) in
-    let said = ap as-number (sym (c .before .covers-record .ensures) ∙ c .if3 .taken) in
-    omega (arith, answer, said)
+    let a = b .before .before .before .before .before .before .args in
+    let told =
+    ap as-number
+    (sym (yes-map (askingOf desk (a .first .now)) (askingOf desk (a .second .now)))
+    ∙ sym (said-yes _ _ _ (r .covers-record .ensures .finds))
+    ∙ c .if3 .taken) in (
+      omega (arith, answer, told),
+      searched-map _ _ _ (r .covers-record .kept .1 .1 .0) (r .covers-record .ensures)
+          ∙ sym (map-covers desk _ _ (first-is b) (second-is b)),
+    )
 
 returns-4 : tie.Need-returns-4
 returns-4 c =
-    let b = c .before .before in
+    let r = c .before .before in
+    let b = r .before .before in
     let answer = answer-covers desk _ _ (first-is b) (second-is b) in
-    let said = ap as-number (sym (c .before .covers-record .ensures) ∙ c .if3 .left) in
-    omega (arith, answer, said)
+    let a = b .before .before .before .before .before .before .args in
+    let told =
+    ap as-number
+    (sym (yes-map (askingOf desk (a .first .now)) (askingOf desk (a .second .now)))
+    ∙ sym (said-yes _ _ _ (r .covers-record .ensures .finds))
+    ∙ c .if3 .left) in (
+      omega (arith, answer, told),
+      searched-map _ _ _ (r .covers-record .kept .1 .1 .0) (r .covers-record .ensures)
+          ∙ sym (map-covers desk _ _ (first-is b) (second-is b)),
+    )
 
 pub covers-spec : {M : Type 1} → statement M
 covers-spec =
@@ -68,6 +88,7 @@ covers-spec =
     returns
     is-record-requires-2
     returns-2
+    slice-aggregate-covers-record
     covers-record-requires
     returns-3
     returns-4)

@@ -17,12 +17,12 @@ kept-requires c κs = search needs
 
 returns : tie.Need-returns
 returns c =
-    let e = kept-first desk _ _ (sym (c .before .kept .ensures) ∙ c .if1 .taken) in
+    let e = kept-first desk _ _ (sym (c .before .kept .ensures .0) ∙ c .if1 .taken) in
     record { bytes = rw e; place = rw e }
 
 returns-2 : tie.Need-returns-2
 returns-2 c =
-    let e = kept-second desk _ _ (sym (c .before .before .kept .ensures) ∙ c .if2 .taken) in
+    let e = kept-second desk _ _ (sym (c .before .before .kept .ensures .0) ∙ c .if2 .taken) in
     record { bytes = rw e; place = rw e }
 
 slice-aggregate-result : tie.Need-slice-aggregate-result
@@ -30,7 +30,7 @@ slice-aggregate-result c = search needs
 
 returns-3 : tie.Need-returns-3
 returns-3 c =
-    let k = c .before .before .before .kept .ensures in
+    let k = c .before .before .before .kept .ensures .0 in
     let e = kept-neither desk _ _ (rw k at (c .before .before .if1 .left)) (rw k at (c .before .if2 .left)) in
     record { bytes = rw e; place = rw e (same-place (omega arith) (omega arith)) }
 

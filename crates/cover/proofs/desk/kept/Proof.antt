@@ -1,9 +1,9 @@
--- `cover::desk::kept` meets its contract: the two answers say which record is kept.
+-- `cover::desk::kept` meets its contract: the two answers say which record is kept, and by which map.
 use borrow.Author.Needs.{needs}
 use mathlib.Core.Path.{sym, ap, _∙_}
 use Rattle.covering.specs.Record.{desk}
 use Rattle.covering.specs.Desk.{chosenNumber, keptAnswer}
-use Rattle.covering.proofs.Answers.{keeps-first, keeps-second, keeps-neither}
+use Rattle.covering.proofs.Answers.{keeps-first, keeps-second, keeps-neither, map-first, map-second, map-neither}
 use Rattle.cover.proofs.desk.kept.Statement.{statement}
 use Rattle.cover.proofs.desk.kept.Tie as tie
 
@@ -12,7 +12,10 @@ covers-requires c κs = search needs
 
 returns : tie.Need-returns
 unfolding keptAnswer
-returns c = sym (ap chosenNumber (keeps-first desk _ _ (sym (c .before .covers .ensures) ∙ c .if1 .taken)))
+returns c =
+    let t = c .before .before .before .covers .ensures in
+    let e = keeps-first desk _ _ (sym (t .0) ∙ c .before .if1 .taken) in
+    (sym (ap chosenNumber e), t .1 ∙ sym (map-first desk _ _ e))
 
 covers-requires-2 : tie.Need-covers-requires-2
 covers-requires-2 c = search needs
@@ -20,15 +23,19 @@ covers-requires-2 c = search needs
 returns-2 : tie.Need-returns-2
 unfolding keptAnswer
 returns-2 c =
-    let n = rw (c .before .before .before .covers .ensures) at (c .before .before .if1 .left) in
-    sym (ap chosenNumber (keeps-second desk _ _ n (sym (c .before .covers2 .ensures) ∙ c .if2 .taken)))
+    let b = c .before .before .before in
+    let n = rw (b .before .before .before .covers .ensures .0) at (b .before .if1 .left) in
+    let e = keeps-second desk _ _ n (sym (b .covers2 .ensures .0) ∙ c .before .if2 .taken) in
+    (sym (ap chosenNumber e), b .covers2 .ensures .1 ∙ sym (map-second desk _ _ e))
 
 returns-3 : tie.Need-returns-3
 unfolding keptAnswer
 returns-3 c =
-    let n = rw (c .before .before .before .covers .ensures) at (c .before .before .if1 .left) in
-    let m = rw (c .before .covers2 .ensures) at (c .if2 .left) in
-    sym (ap chosenNumber (keeps-neither desk _ _ n m))
+    let b = c .before .before in
+    let n = rw (b .before .before .before .covers .ensures .0) at (b .before .if1 .left) in
+    let m = rw (b .covers2 .ensures .0) at (c .if2 .left) in
+    let e = keeps-neither desk _ _ n m in
+    (sym (ap chosenNumber e), sym (map-neither desk _ _ e))
 
 pub kept-spec : {M : Type 1} → statement M
 kept-spec =

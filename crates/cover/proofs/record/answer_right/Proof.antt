@@ -1,8 +1,6 @@
 -- `cover::record::answer_right` meets its contract: without an answer record there is nothing to judge.
-use borrow.Author.Needs.{needs}
 use native.Mathlib.Omega.{arith}
-use mathlib.Core.Path.{_≡_, sym, _∙_}
-use Rattle.covering.specs.Record.{answers}
+use mathlib.Core.Path.{_∙_}
 use Rattle.covering.proofs.Bytes.{not-answered, is-answered, answers-few}
 use Rattle.cover.proofs.record.answer_right.Statement.{statement}
 use Rattle.cover.proofs.record.answer_right.Tie as tie

@@ -1,7 +1,7 @@
 -- `cover::record::answers` meets its contract. A record of one byte has no relation byte.
 use borrow.Author.Needs.{needs}
 use native.Mathlib.Omega.{arith}
-use mathlib.Core.Path.{sym, _∙_}
+use mathlib.Core.Path.{sym}
 use lib.ListN.{List·getD-eq-default}
 use Rattle.covering.proofs.Bytes.{answers-none, answers-one}
 use Rattle.cover.proofs.record.answers.Statement.{statement}

@@ -1,10 +1,8 @@
--- `cover::search::covers_on` meets its contract: the first atom is tried on one candidate, with no variable placed.
+-- `cover::search::covers_on` meets its contract: the first atom is tried on one candidate.
 use borrow.Author.Needs.{needs}
 use native.Mathlib.Omega.{arith}
-use mathlib.Core.Path.{refl, _∙_}
 use Rattle.covering.specs.Record.{stored, questionOf}
-use Rattle.cover.proofs.Maps.{said-yes}
-use Rattle.cover.proofs.SearchSteps.{on-candidate}
+use Rattle.cover.proofs.SearchSteps.{on-candidate, searched-as}
 use Rattle.covering.proofs.Within.{sound-in, in-first}
 use Rattle.cover.proofs.search.covers_on.Statement.{statement}
 use Rattle.cover.proofs.search.covers_on.Tie as tie
@@ -21,9 +19,6 @@ shared-slice-read-w c = search needs
 cast-w : tie.Need-cast-w
 cast-w c = search needs
 
-slice-aggregate-try-candidate : tie.Need-slice-aggregate-try-candidate
-slice-aggregate-try-candidate c = search needs
-
 sub-try-candidate : tie.Need-sub-try-candidate
 sub-try-candidate c = omega arith
 
@@ -35,19 +30,19 @@ add-try-candidate c = omega arith
 
 try-candidate-requires : tie.Need-try-candidate-requires
 try-candidate-requires c κs =
-    let start = c .before .before .before .before .before in (
-      refl,
-      in-first stored _ _ _ (sound-in stored _ (start .pre .0)) (omega (arith, start .pre .3)),
-      omega arith,
-      omega arith,
-      omega arith,
+    let start = c .before .before .before .before .before .before in (
+      start .pre .2,
+      in-first stored _ _ _ (sound-in stored _ (start .pre .0)) (omega (arith, start .pre .4)),
       omega arith,
       omega arith,
     )
 
+same-length : tie.Need-same-length
+same-length c = c .before .before .try-candidate .kept .1 .1 .0
+
 returns : tie.Need-returns
 unfolding questionOf
-returns c = said-yes _ _ _ (c .before .try-candidate .ensures .finds) ∙ on-candidate stored _ _ _ 64 (omega arith)
+returns c = searched-as _ _ _ _ _ (on-candidate stored _ _ _ _ (omega arith)) (c .before .before .try-candidate .ensures)
 
 pub covers-on-spec : {M : Type 1} → statement M
 covers-on-spec =
@@ -57,9 +52,9 @@ covers-on-spec =
     cast-n
     shared-slice-read-w
     cast-w
-    slice-aggregate-try-candidate
     sub-try-candidate
     mul-try-candidate
     add-try-candidate
     try-candidate-requires
+    same-length
     returns)

@@ -1,38 +1,48 @@
--- `cover::search::covers_sound` meets its contract: a sound record counts all its atoms.
+-- `cover::search::covers_sound` meets its contract: a sound record counts all its atoms, and the search starts at the
+-- first, with no variable placed.
 use borrow.Author.Needs.{needs}
+use mathlib.Core.Path.{refl, ap, _∙_}
+use Rattle.covering.specs.Search.{findMap, firstMap, covers}
 use Rattle.covering.specs.Record.{stored, questionOf}
 use Rattle.covering.proofs.Within.{sound-in}
+use Rattle.cover.proofs.Maps.{said-yes, part-nowhere}
 use Rattle.cover.proofs.search.covers_sound.Statement.{statement}
 use Rattle.cover.proofs.search.covers_sound.Tie as tie
 
-shared-slice-read-covers-atoms : tie.Need-shared-slice-read-covers-atoms
-shared-slice-read-covers-atoms c = search needs
+shared-slice-read-n : tie.Need-shared-slice-read-n
+shared-slice-read-n c = search needs
 
-cast-covers-atoms : tie.Need-cast-covers-atoms
-cast-covers-atoms c = search needs
+cast-n : tie.Need-cast-n
+cast-n c = search needs
 
-shared-slice-read-covers-atoms-2 : tie.Need-shared-slice-read-covers-atoms-2
-shared-slice-read-covers-atoms-2 c = search needs
+shared-slice-read-w : tie.Need-shared-slice-read-w
+shared-slice-read-w c = search needs
 
-cast-covers-atoms-2 : tie.Need-cast-covers-atoms-2
-cast-covers-atoms-2 c = search needs
+cast-w : tie.Need-cast-w
+cast-w c = search needs
 
-covers-atoms-requires : tie.Need-covers-atoms-requires
-covers-atoms-requires c κs =
-    let k = c .before .before .before .before in
-    (sound-in stored _ (k .pre .0), sound-in stored _ (k .pre .1), k .pre .0 .most, k .pre .1 .most)
+slice-aggregate-place-next : tie.Need-slice-aggregate-place-next
+slice-aggregate-place-next c = search needs
+
+place-next-requires : tie.Need-place-next-requires
+place-next-requires c κs =
+    let k = c .before .before .before .before .before in
+    (refl, sound-in stored _ (k .pre .0), k .pre .1 .fits)
 
 returns : tie.Need-returns
-unfolding questionOf
-returns c = c .covers-atoms .ensures
+unfolding covers firstMap questionOf
+returns c =
+    let r = c .before .place-next in
+    said-yes _ _ _ (r .ensures .finds ∙ ap (findMap _ _) (part-nowhere 64))
 
 pub covers-sound-spec : {M : Type 1} → statement M
 covers-sound-spec =
     tie.close
     (tie.spec
-    shared-slice-read-covers-atoms
-    cast-covers-atoms
-    shared-slice-read-covers-atoms-2
-    cast-covers-atoms-2
-    covers-atoms-requires
+    shared-slice-read-n
+    cast-n
+    shared-slice-read-w
+    cast-w
+    slice-aggregate-place-next
+    place-next-requires
     returns)

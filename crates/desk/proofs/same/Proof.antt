@@ -1,9 +1,9 @@
--- `desk_batch::same` is safe and ends: the measure is the number of bytes left.
+-- `desk::same` is safe and ends: the measure is the number of bytes left.
 use borrow.Author.Needs.{needs}
 use Prim.Native.Nat.{_-_, _≤_}
 use lib.ListN.{length}
-use Rattle.desk_batch.proofs.same.Statement.{statement}
-use Rattle.desk_batch.proofs.same.Tie as tie
+use Rattle.desk.proofs.same.Statement.{statement}
+use Rattle.desk.proofs.same.Tie as tie
 
 abbrev Inv-loop : tie.InvT-loop
 Inv-loop a b i₀ i = i ≤ length a

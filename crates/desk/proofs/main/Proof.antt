@@ -1,7 +1,7 @@
--- `desk_batch::main` ends: the measure is the number of turns that are left.
+-- `desk::main` ends: the measure is the number of turns that are left.
 use borrow.Author.Needs.{needs}
-use Rattle.desk_batch.proofs.main.Statement.{statement}
-use Rattle.desk_batch.proofs.main.Tie as tie
+use Rattle.desk.proofs.main.Statement.{statement}
+use Rattle.desk.proofs.main.Tie as tie
 
 abbrev Inv-loop : tie.InvT-loop
 Inv-loop turns₀ turns = Unit {0}

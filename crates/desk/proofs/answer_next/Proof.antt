@@ -1,12 +1,12 @@
--- `desk_batch::answer_next` is safe: each record is within its buffer.
+-- `desk::answer_next` is safe: each record is within its buffer.
 use borrow.Author.Needs.{needs}
 use mathlib.Core.Path.{sym, subst}
 use Prim.Native.Nat.{_≤_}
 use lib.ListN.{length}
 use lib.Seq.{length-take-le}
-use Rattle.desk_batch.specs.Got.{Within}
-use Rattle.desk_batch.proofs.answer_next.Statement.{statement}
-use Rattle.desk_batch.proofs.answer_next.Tie as tie
+use Rattle.desk.specs.Got.{Within}
+use Rattle.desk.proofs.answer_next.Statement.{statement}
+use Rattle.desk.proofs.answer_next.Tie as tie
 
 -- what was read of the first record and of the second
 first-fits : (c : tie.After-read) → c .read .given .0 .0 ≤ length (c .before .before .before .read-record .last .0)

@@ -1,11 +1,15 @@
-// The search desk's two operations on many pairs in one start: for each pair it reads two records, each a length of four
-// bytes, the low one first, and the record's bytes, and writes a line such as `covers 1 keep first` (or `second`, or
-// `none`) and a line with a single full stop. It ends at a pair that is not all there, or at a record that is longer
-// than the buffer.
+// The search desk on a pair of records, or on many in one start: for each pair it reads two records, each a length of four
+// bytes, the low one first, and the record's bytes. It writes a line such as `covers 1 keep first` (or `second`, or
+// `none`); then of the record that is kept, for each variable where it goes, `v0 to c1`, and for each atom which atom of
+// the other it meets, `r0(v0) meets r0(c1)`; then a line with a single full stop. It ends at a pair that is not all
+// there, or at a record that is longer than the buffer.
+mod meeting;
+
+use crate::meeting::tell_map;
 ghost use mathlib.Core.Path.{_≡_};
 ghost use Prim.Native.Nat.{_<_};
 ghost use lib.ListN.{length};
-ghost use Rattle.desk_batch.specs.Got.{Within};
+ghost use Rattle.desk.specs.Got.{Within};
 use libc::STDIN_FILENO;
 use libc::STDOUT_FILENO;
 
@@ -44,7 +48,7 @@ fn read_record(buffer: &mut [u8]) -> Got
     Got::Record(n)
 }
 
-fn put(text: &[u8]) {
+pub fn put(text: &[u8]) {
     io::write_all(STDOUT_FILENO, text);
 }
 
@@ -77,13 +81,29 @@ fn tell_kept<'a>(first: &'a [u8], second: &'a [u8]) {
     put(b"second");
 }
 
+// Writes by which map the record that is kept covers the other.
+fn tell_why(first: &[u8], second: &[u8]) {
+    let kept = cover::kept(first, second);
+    let map = kept.map;
+    let which = kept.which;
+    if which == 1 {
+        tell_map(first, second, &map);
+    }
+    if which == 2 {
+        tell_map(second, first, &map);
+    }
+}
+
 // Answers a pair.
 fn answer<'a>(first: &'a [u8], second: &'a [u8]) {
+    let covered = cover::covers(first, second);
     put(b"covers ");
-    io::print_decimal(STDOUT_FILENO, cover::covers(first, second) as u64);
+    io::print_decimal(STDOUT_FILENO, covered.number as u64);
     put(b" keep ");
     tell_kept(first, second);
-    put(b"\n.\n");
+    put(b"\n");
+    tell_why(first, second);
+    put(b".\n");
 }
 
 // Answers the next pair, and whether there was one.

@@ -1,9 +1,9 @@
--- `desk_batch::read_record` meets its contract: a record that was read is within the buffer.
+-- `desk::read_record` meets its contract: a record that was read is within the buffer.
 use borrow.Author.Needs.{needs}
 use mathlib.Core.Path.{sym}
 use lib.Seq.{length-take-le}
-use Rattle.desk_batch.proofs.read_record.Statement.{statement}
-use Rattle.desk_batch.proofs.read_record.Tie as tie
+use Rattle.desk.proofs.read_record.Statement.{statement}
+use Rattle.desk.proofs.read_record.Tie as tie
 
 slice-aggregate-read-full : tie.Need-slice-aggregate-read-full
 slice-aggregate-read-full c = search needs

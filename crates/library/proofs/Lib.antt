@@ -1,0 +1,2 @@
+-- The laws that the exports cite.
+pub mod Lending
