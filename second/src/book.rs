@@ -78,11 +78,23 @@ fn decode_atom(bytes: &[u8]) -> Atom {
 /// The terms in the used places of an atom or an answer record.
 fn decode_terms(bytes: &[u8]) -> Vec<Term> {
     let used = bytes[1..].iter().take_while(|&&byte| byte != UNUSED);
-    let terms = used.map(|&byte| match byte {
+    used.map(|&byte| decode_term(byte)).collect()
+}
+
+/// The term that a byte of a used place is.
+pub fn decode_term(byte: u8) -> Term {
+    match byte {
         FIRST_CONSTANT.. => Term::Constant((byte - FIRST_CONSTANT) as usize),
         _ => Term::Variable(byte as usize),
-    });
-    terms.collect()
+    }
+}
+
+/// The byte of a term.
+pub fn encode_term(term: Term) -> u8 {
+    match term {
+        Term::Variable(v) => v as u8,
+        Term::Constant(c) => FIRST_CONSTANT + c as u8,
+    }
 }
 
 /// The bytes of a question: the answer record if there is one, then the atoms.
@@ -105,10 +117,7 @@ fn encode(relation: u8, terms: &[Term]) -> [u8; ATOM] {
     let mut bytes = [UNUSED; ATOM];
     bytes[0] = relation;
     for (byte, term) in bytes[1..].iter_mut().zip(terms) {
-        *byte = match term {
-            Term::Variable(v) => *v as u8,
-            Term::Constant(c) => FIRST_CONSTANT + *c as u8,
-        };
+        *byte = encode_term(*term);
     }
     bytes
 }

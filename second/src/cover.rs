@@ -4,7 +4,7 @@ use crate::term::{Atom, Question, Term};
 
 /// A map of variables to terms, as the pairs that were put into it, no variable in two. A
 /// variable that is in none has no image yet. What was put last is taken back first.
-#[derive(Clone, Default)]
+#[derive(Clone, Debug, Default)]
 pub struct Map {
     pairs: Vec<(usize, Term)>,
 }
@@ -14,6 +14,11 @@ impl Map {
     pub fn image(&self, variable: usize) -> Option<Term> {
         let pair = self.pairs.iter().find(|(v, _)| *v == variable);
         pair.map(|(_, image)| *image)
+    }
+
+    /// The variables that have an image, each with it, in the order in which they got it.
+    pub fn images(&self) -> &[(usize, Term)] {
+        &self.pairs
     }
 
     /// Gives an image to a variable that has none.
@@ -54,6 +59,22 @@ pub fn equivalent(a: &Question, b: &Question) -> bool {
 pub fn holds(question: &Question, row: &[Term], facts: &[Atom]) -> bool {
     let mut start = Map::default();
     sent_terms(&question.answer, row, &mut start) && some_map(&question.atoms, facts, &start)
+}
+
+/// The first map by which A covers B: "Among all maps give the first when atoms are taken in
+/// order and candidates in order". The answer record has one candidate, the other's, and is
+/// placed before the atoms.
+pub fn first_map(a: &Question, b: &Question) -> Option<Map> {
+    let mut start = Map::default();
+    if !sent_terms(&a.answer, &b.answer, &mut start) {
+        return None;
+    }
+    let mut first = None;
+    for_each_map(&a.atoms, &b.atoms, &start, &mut |map| {
+        first = Some(map.clone());
+        false
+    });
+    first
 }
 
 /// Whether some map that extends `start` sends each atom of `a` to an atom of `b`.

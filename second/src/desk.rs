@@ -1,35 +1,79 @@
-//! The search desk: covering on member records.
+//! The search desk: covering on member records, and the map by which one covers the other.
 
-use crate::book::decode_question;
-use crate::cover::covers as covers_question;
+use crate::book::{decode_question, encode_term};
+use crate::cover::{first_map, Map};
 use crate::layout::{ANSWER, ATOM, FIRST_CONSTANT, UNUSED};
 use crate::term::Question;
 
-/// "0 no, 1 yes, 2 first malformed, 3 second malformed; 2 wins."
-pub fn covers(first: &[u8], second: &[u8]) -> u8 {
-    let Some(first) = question_of(first) else {
-        return 2;
-    };
-    let Some(second) = question_of(second) else {
-        return 3;
-    };
-    covers_question(&first, &second) as u8
+/// A map in bytes: byte v is the byte of the term that variable v goes to, 255 where v does
+/// not stand in the record that covers.
+pub type Bytes = [u8; 64];
+
+/// The map where there is none.
+pub const NO_MAP: Bytes = [UNUSED; 64];
+
+/// What covering gives: "0 no, 1 yes, 2 first malformed, 3 second malformed; 2 wins." And the
+/// first map of the first record to the second, if it is 1.
+#[derive(Clone, Copy, Debug, PartialEq, Eq)]
+pub struct Covered {
+    pub number: u8,
+    pub map: Bytes,
 }
 
 /// Which of the two is kept: 1 the first, which covers the second, "equivalent records give
-/// the first"; 2 the second; 0 neither, for they are malformed or incomparable.
-pub fn kept(first: &[u8], second: &[u8]) -> u8 {
-    match (covers(first, second), covers(second, first)) {
-        (1, _) => 1,
-        (_, 1) => 2,
-        _ => 0,
+/// the first"; 2 the second; 0 neither, for they are malformed or incomparable. And the first
+/// map of the one that is kept to the other.
+#[derive(Clone, Copy, Debug, PartialEq, Eq)]
+pub struct Kept {
+    pub which: u8,
+    pub map: Bytes,
+}
+
+/// Whether the first record covers the second.
+pub fn covers(first: &[u8], second: &[u8]) -> Covered {
+    let without_map = |number| Covered {
+        number,
+        map: NO_MAP,
+    };
+    let Some(first) = question_of(first) else {
+        return without_map(2);
+    };
+    let Some(second) = question_of(second) else {
+        return without_map(3);
+    };
+    match first_map(&first, &second) {
+        None => without_map(0),
+        Some(map) => Covered {
+            number: 1,
+            map: bytes_of(&map),
+        },
     }
+}
+
+/// Which of the two covers the other.
+pub fn kept(first: &[u8], second: &[u8]) -> Kept {
+    let (there, back) = (covers(first, second), covers(second, first));
+    let (which, map) = match (there.number, back.number) {
+        (1, _) => (1, there.map),
+        (_, 1) => (2, back.map),
+        _ => (0, NO_MAP),
+    };
+    Kept { which, map }
+}
+
+/// The bytes of a map. It has an image for the variables of the record that covers alone.
+fn bytes_of(map: &Map) -> Bytes {
+    let mut bytes = NO_MAP;
+    for (variable, image) in map.images() {
+        bytes[*variable] = encode_term(*image);
+    }
+    bytes
 }
 
 /// The record that covers the other, as a part of its own buffer. "Malformed or incomparable
 /// ones give the empty part at the first's start."
 pub fn keep<'r>(first: &'r [u8], second: &'r [u8]) -> &'r [u8] {
-    match kept(first, second) {
+    match kept(first, second).which {
         1 => first,
         2 => second,
         _ => &first[..0],

@@ -2,10 +2,10 @@
 //! not from the proved code: brute force where that is more plainly right.
 //!
 //! Reading order: `term`, `cover`, `form`, `unify`, `explore` say what a run is;
-//! `book`, `union`, `run`, `print` put it into bytes; `desk` is the search desk.
-//! `source` is the text form of books. `generate`, `damage`, `limits`, `pairs` and
-//! `seen` serve the comparer, a package of its own; `chase` and `ledger` the second
-//! check of what a complete union promises.
+//! `book`, `union`, `run`, `print` put it into bytes; `desk` is the search desk, `meeting`
+//! what it says of a map. `source` is the text form of books. `generate`, `damage`, `limits`,
+//! `pairs`, `kinds` and `seen` serve the comparer, a package of its own; `chase` and `ledger`
+//! the second check of what a complete union promises.
 
 pub mod book;
 pub mod chase;
@@ -15,9 +15,11 @@ pub mod desk;
 pub mod explore;
 pub mod form;
 pub mod generate;
+pub mod kinds;
 pub mod layout;
 pub mod ledger;
 pub mod limits;
+pub mod meeting;
 pub mod pairs;
 pub mod print;
 pub mod random;

@@ -49,8 +49,13 @@ pub fn print_question(question: &Question) -> String {
     };
     match question.is_answered() {
         false => atoms,
-        true => format!("a{} {atoms}", print_terms(&question.answer)),
+        true => format!("{} {atoms}", print_answer_record(&question.answer)),
     }
+}
+
+/// An answer record, such as a(v0).
+pub fn print_answer_record(terms: &[Term]) -> String {
+    format!("a{}", print_terms(terms))
 }
 
 /// Atoms, a space between two.
@@ -60,7 +65,7 @@ pub fn print_atoms(atoms: &[Atom]) -> String {
 }
 
 /// An atom "as relation number and terms (v variable, c constant)".
-fn print_atom(atom: &Atom) -> String {
+pub fn print_atom(atom: &Atom) -> String {
     format!("r{}{}", atom.relation, print_terms(&atom.terms))
 }
 
@@ -71,7 +76,7 @@ pub fn print_terms(terms: &[Term]) -> String {
 }
 
 /// A term, such as v0 or c0.
-fn print_term(term: &Term) -> String {
+pub fn print_term(term: &Term) -> String {
     match term {
         Term::Variable(v) => format!("v{v}"),
         Term::Constant(c) => format!("c{c}"),

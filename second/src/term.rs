@@ -76,6 +76,13 @@ impl Question {
         }
     }
 
+    /// The question with its atoms from the last to the first.
+    pub fn turned_round(&self) -> Question {
+        let mut turned = self.clone();
+        turned.atoms.reverse();
+        turned
+    }
+
     /// Whether there is an answer record.
     pub fn is_answered(&self) -> bool {
         !self.answer.is_empty()

@@ -1,23 +1,15 @@
 //! The search desk: two member records.
 
-use second::desk::{covers, keep};
+#[path = "common/records.rs"]
+mod records;
 
-/// A record of these atoms.
-fn record(atoms: &[[u8; 5]]) -> Vec<u8> {
-    let mut bytes = vec![atoms.len() as u8];
-    atoms.iter().for_each(|atom| bytes.extend(atom));
-    bytes
+use records::{answered, record, U};
+use second::desk::keep;
+
+/// The number that covering gives.
+fn covers(first: &[u8], second: &[u8]) -> u8 {
+    second::desk::covers(first, second).number
 }
-
-/// A record of these atoms with an answer record before them.
-fn answered(answer: [u8; 4], atoms: &[[u8; 5]]) -> Vec<u8> {
-    let mut bytes = record(atoms);
-    let [a, b, c, d] = answer;
-    bytes.splice(1..1, [255, a, b, c, d]);
-    bytes
-}
-
-const U: u8 = 255;
 
 #[test]
 fn the_bench_examples() {

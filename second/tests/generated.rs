@@ -6,7 +6,7 @@ use second::random::Random;
 use second::seen::{Behaviour, Seen, BEHAVIOURS};
 use second::term::Term;
 use second::way::{Way, WRONG_WAYS};
-use second::{generate, ledger, limits, pairs};
+use second::{generate, kinds, ledger, limits, pairs};
 use std::process::Command;
 
 /// The first books of a seed.
@@ -116,7 +116,7 @@ fn every_wrong_shortcut_is_caught() {
 fn pairs_for_the_desk_are_of_every_kind() {
     let mut random = Random::new(9);
     let pairs: Vec<pairs::Pair> = (0..4000).map(|_| pairs::next(&mut random)).collect();
-    let mut kinds = pairs::Kinds::default();
+    let mut kinds = kinds::Kinds::default();
     pairs.iter().for_each(|pair| kinds.count(pair));
     assert!(
         kinds.counts.iter().all(|&count| count > 5),
