@@ -1,10 +1,10 @@
 /* Rauntiko for C programs: the proved routines, as an archive that `rust/archive` makes.
  *
  * All bytes are read and written as the build paper says. Every routine takes whatever bytes it is given and always
- * returns; where it refuses, it changes no byte of any buffer. It keeps nothing and allocates nothing, so several
- * threads may call it at a time. Of its caller it wants what C cannot check: each pointer leads to as many bytes as
- * the length after it says (a length of 0 goes with any pointer but NULL), and a buffer that is written overlaps no
- * other. */
+ * returns; where a book is refused, no byte of the output is changed. It keeps nothing and allocates nothing, so
+ * several threads may call it at a time. Of its caller it wants what C cannot check: each pointer leads to as many
+ * bytes as the length after it says (a length of 0 goes with any pointer but NULL; only a map that is not wanted may be
+ * NULL), and a buffer that is written overlaps no other. */
 #ifndef RAUNTIKO_H
 #define RAUNTIKO_H
 
@@ -40,13 +40,26 @@ extern "C" {
  *    11     an answer variable stands in no atom of the question               the byte's offset */
 uint8_t rauntiko_run(const uint8_t *book, size_t book_len, uint8_t *out, size_t out_len, size_t *place);
 
+/* The bytes of a map. */
+#define RAUNTIKO_MAP 64
+
 /* If the first member record covers the second, that is, if the first holds wherever the second does: 0 no, 1 yes,
- * 2 the first is malformed, 3 the second is. A record is what a member of a union is, with up to 11 atoms. */
-uint8_t rauntiko_covers(const uint8_t *first, size_t first_len, const uint8_t *second, size_t second_len);
+ * 2 the first is malformed, 3 the second is. A record is what a member of a union is, with up to 11 atoms.
+ *
+ * It covers it if its variables can be mapped to the second's terms so that each of its atoms becomes one of the
+ * second's. `map` gets the map: byte v is the term that variable v of the first record goes to (a variable below 128, a
+ * constant from 128 on); 255 where v does not stand in the first record, and everywhere if the number is not 1. Of all
+ * maps it is the first, with the atoms taken in order and for each the second's atoms in order, an answer record before
+ * the atoms. As many of the 64 bytes are written as `map_len` has room for: with less room fewer, and none for a caller
+ * who lends NULL and 0; what lies behind the 64 is not touched. */
+uint8_t rauntiko_covers(const uint8_t *first, size_t first_len, const uint8_t *second, size_t second_len, uint8_t *map,
+                        size_t map_len);
 
 /* Which of two member records to keep: 1 the first, which covers the second; 2 the second, which alone covers the
- * other; 0 neither, since one is malformed or they are incomparable. */
-uint8_t rauntiko_kept(const uint8_t *first, size_t first_len, const uint8_t *second, size_t second_len);
+ * other; 0 neither, since one is malformed or they are incomparable. `map` gets the map of the record that is kept to
+ * the other, as above; all 255 if neither is. */
+uint8_t rauntiko_kept(const uint8_t *first, size_t first_len, const uint8_t *second, size_t second_len, uint8_t *map,
+                      size_t map_len);
 
 #ifdef __cplusplus
 }

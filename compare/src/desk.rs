@@ -1,7 +1,7 @@
 //! Comparing the second program with the others, and with a batch program, at the search desk.
 
 use crate::against::Against;
-use crate::side::Side;
+use crate::side::{Desk, Side};
 use second::desk::{covers, kept};
 use second::pairs::{answer, next, Pair};
 use second::random::Random;
@@ -12,18 +12,35 @@ pub fn generated(seed: u64, many: usize) -> Vec<Pair> {
     (0..many).map(|_| next(&mut random)).collect()
 }
 
-/// Compares all in this process on a pair; the first difference, told.
+/// Compares all in this process on a pair, number and map; the first difference, told.
 pub fn compare_pair(sides: &[Side], pair: &Pair) -> Result<(), String> {
     let (first, second) = pair;
-    let mine = (covers(first, second), kept(first, second));
+    let (covered, kept) = (covers(first, second), kept(first, second));
+    let mine = [
+        ("covers", (covered.number, Some(covered.map))),
+        ("kept", (kept.which, Some(kept.map))),
+    ];
     for side in sides {
-        let theirs = ((side.covers)(first, second), (side.kept)(first, second));
-        if theirs != mine {
-            let told = |(covers, kept)| format!("covers {covers}, kept {kept}");
-            return Err(difference(pair, &told(mine), side.name, &told(theirs)));
+        let theirs = [(side.covers)(first, second), (side.kept)(first, second)];
+        for ((what, mine), theirs) in mine.iter().zip(theirs) {
+            if !agree(*mine, theirs) {
+                let told = |answer| told(what, answer);
+                return Err(difference(pair, &told(*mine), side.name, &told(theirs)));
+            }
         }
     }
     Ok(())
+}
+
+/// Whether another gives the second program's number and, if it gives a map, the same.
+fn agree((number, map): Desk, (their_number, their_map): Desk) -> bool {
+    number == their_number && (their_map.is_none() || their_map == map)
+}
+
+/// What the desk answered, in words.
+fn told(what: &str, (number, map): Desk) -> String {
+    let map = map.map(|map| format!(", map {map:?}"));
+    format!("{what} {number}{}", map.unwrap_or_default())
 }
 
 /// Compares a batch program on the pairs; the first difference, told.

@@ -95,6 +95,7 @@ fn the_comparer_meets_every_behaviour_and_no_difference() {
     let (fine, text) = command(env!("CARGO_BIN_EXE_compare"), &words);
     assert!(fine, "{text}");
     assert!(text.contains("generated: 700 books "), "{text}");
+    assert!(text.contains("\n3 sides: "), "{text}");
     assert!(text.trim_end().ends_with("differences 0"), "{text}");
     let nowhere = ["--count", "0", "--books", "no-such-directory"];
     let (fine, text) = command(env!("CARGO_BIN_EXE_compare"), &nowhere);
@@ -108,7 +109,11 @@ fn the_desk_is_compared_in_the_process_and_with_a_program() {
     let (fine, text) = command(path, &right);
     assert!(fine, "{text}");
     assert!(text.ends_with("pairs 5000, differences 0\n"), "{text}");
+    assert!(text.contains("\n3 sides: "), "{text}");
     let (fine, text) = command(path, &["--count", "10", "--against", BATCH]);
+    assert!(!fine && text.contains("DIFFERENCE"), "{text}");
+    let mapless = format!("{BATCH} --desk | grep -v ' to '");
+    let (fine, text) = command(path, &["--count", "10", "--against", "sh", "-c", &mapless]);
     assert!(!fine && text.contains("DIFFERENCE"), "{text}");
     let (fine, text) = command(path, &["--books", "."]);
     assert!(!fine && text == "--books is not known\n", "{text}");

@@ -4,12 +4,13 @@ use compare::blocks::{each_block, Until};
 use compare::comparison::Comparison;
 use compare::desk::{compare_pair, generated};
 use compare::output::takes_small_output;
-use compare::side::{Answered, Side, SIDES};
+use compare::side::{told as sides_told, Answered, Desk, Side, PLAIN, PROVED, SIDES};
 use compare::Named;
 use second::pairs::Pair;
 use second::random::Random;
 use second::run::run_by;
 use second::seen::Seen;
+use second::union::record;
 use second::way::Way;
 use second::{desk, generate};
 use std::collections::BTreeSet;
@@ -21,12 +22,24 @@ fn by(way: Way, book: &[u8], out: &mut [u8]) -> Answered {
     (answer.number as u8, answer.place)
 }
 
+/// What the second program's covering gives.
+fn covers(first: &[u8], second: &[u8]) -> Desk {
+    let covered = desk::covers(first, second);
+    (covered.number, Some(covered.map))
+}
+
+/// Which one it keeps.
+fn kept(first: &[u8], second: &[u8]) -> Desk {
+    let kept = desk::kept(first, second);
+    (kept.which, Some(kept.map))
+}
+
 /// The second program as a side.
 const RIGHT: Side = Side {
     name: "the second program once more",
     run: |book, out| by(Way::Right, book, out),
-    covers: desk::covers,
-    kept: desk::kept,
+    covers,
+    kept,
 };
 
 /// One that runs books in another way.
@@ -55,6 +68,9 @@ fn a_right_side_passes() {
     assert_eq!(comparison.compared, 500);
     let times = comparison.times();
     assert!(times.contains("the proved routines"), "{times}");
+    assert!(times.contains("plain Rust"), "{times}");
+    let all = "3 sides: the second program, the proved routines, plain Rust";
+    assert_eq!(sides_told(SIDES), all);
 }
 
 #[test]
@@ -133,27 +149,77 @@ fn a_side_that_takes_a_small_output_is_caught() {
     assert_eq!(taken, Some(RIGHT.name));
 }
 
+/// What is told of a side on generated pairs.
+fn told_of_pairs(side: Side) -> Result<(), String> {
+    let mut pairs = generated(22, 2000).into_iter();
+    pairs.try_for_each(|pair: Pair| compare_pair(&[side], &pair))
+}
+
 #[test]
-fn a_wrong_answer_of_the_desk_is_caught() {
-    let pairs = generated(22, 2000);
-    let all = |side: Side| {
-        let mut pairs = pairs.iter();
-        pairs.try_for_each(|pair: &Pair| compare_pair(&[side], pair))
-    };
-    assert_eq!(all(RIGHT), Ok(()));
+fn a_wrong_number_of_the_desk_is_caught() {
+    assert_eq!(told_of_pairs(RIGHT), Ok(()));
     let turned = Side {
-        covers: |first, second| desk::covers(second, first),
+        covers: |first, second| covers(second, first),
         ..RIGHT
     };
     let second_kept = Side {
-        kept: |first, second| match desk::kept(first, second) {
-            1 if desk::covers(second, first) == 1 => 2,
-            which => which,
+        kept: |first, second| match kept(first, second) {
+            (1, map) if covers(second, first).0 == 1 => (2, map),
+            other => other,
         },
         ..RIGHT
     };
-    for side in [turned, second_kept] {
-        assert!(all(side).unwrap_err().starts_with("DIFFERENCE\nfirst ["));
+    let without_map = Side {
+        covers: |first, second| (covers(second, first).0, None),
+        ..RIGHT
+    };
+    for side in [turned, second_kept, without_map] {
+        let told = told_of_pairs(side).unwrap_err();
+        assert!(told.starts_with("DIFFERENCE\nfirst ["), "{told}");
+    }
+}
+
+/// A record's atoms from the last to the first, if it is sound; else itself.
+fn from_behind(bytes: &[u8]) -> Vec<u8> {
+    let question = desk::question_of(bytes);
+    question.map_or(bytes.to_vec(), |question| record(&question.turned_round()))
+}
+
+#[test]
+fn a_wrong_map_is_caught() {
+    let last_map = Side {
+        covers: |first, second| covers(first, &from_behind(second)),
+        ..RIGHT
+    };
+    let last_atom_first = Side {
+        covers: |first, second| covers(&from_behind(first), second),
+        ..RIGHT
+    };
+    let others_map = Side {
+        kept: |first, second| (kept(first, second).0, covers(first, second).1),
+        ..RIGHT
+    };
+    let untouched = Side {
+        kept: |first, second| match kept(first, second) {
+            (0, _) => (0, Some([0; 64])),
+            other => other,
+        },
+        ..RIGHT
+    };
+    for side in [last_map, last_atom_first, others_map, untouched] {
+        let told = told_of_pairs(side).unwrap_err();
+        assert!(told.contains(", map ["), "{told}");
+    }
+}
+
+#[test]
+fn the_proved_routines_give_maps_and_plain_rust_gives_none() {
+    for (first, second) in generated(23, 200) {
+        let (ask, keep) = (PROVED.covers, PROVED.kept);
+        assert_eq!(ask(&first, &second), covers(&first, &second));
+        assert_eq!(keep(&first, &second), kept(&first, &second));
+        assert_eq!((PLAIN.covers)(&first, &second).1, None);
+        assert_eq!((PLAIN.kept)(&first, &second).1, None);
     }
 }
 

@@ -1,5 +1,6 @@
 //! The search desk: covering between two member records.
 
+use crate::map::Map;
 use crate::raw;
 use std::fmt;
 
@@ -29,28 +30,67 @@ impl fmt::Display for Malformed {
 
 impl std::error::Error for Malformed {}
 
-/// If the first record covers the second: wherever the second holds, so does the first.
+/// If the first record covers the second (wherever the second holds, so does the first), the
+/// map that shows it: where the first's variables go. None if it does not cover it.
 ///
 /// ```
-/// // p(v0,v1) covers p(v0,v0), and not the other way.
-/// let (any, same) = ([1, 0, 0, 1, 255, 255], [1, 0, 0, 0, 255, 255]);
-/// assert_eq!(rauntiko::covers(&any, &same), Ok(true));
-/// assert_eq!(rauntiko::covers(&same, &any), Ok(false));
+/// use rauntiko::Term;
+///
+/// // p(v0,v1) covers p(c0,v0), and not the other way.
+/// let (any, named) = ([1, 0, 0, 1, 255, 255], [1, 0, 128, 0, 255, 255]);
+/// let map = rauntiko::covers(&any, &named)?.expect("it covers");
+/// assert_eq!(map.term(0), Some(Term::Constant(0)));
+/// assert_eq!(map.term(1), Some(Term::Variable(0)));
+/// assert_eq!(map.term(2), None);
+/// assert_eq!(map.to_string(), "v0 to c0, v1 to v0");
+/// assert_eq!(rauntiko::covers(&named, &any)?, None);
+/// # Ok::<(), rauntiko::Malformed>(())
 /// ```
-pub fn covers(first: &[u8], second: &[u8]) -> Result<bool, Malformed> {
-    match raw::covers(first, second) {
+pub fn covers(first: &[u8], second: &[u8]) -> Result<Option<Map>, Malformed> {
+    let covered = raw::covers(first, second);
+    match covered.number {
         2 => Err(Malformed::First),
         3 => Err(Malformed::Second),
-        number => Ok(number == 1),
+        1 => Ok(Some(Map::written(covered.map))),
+        _ => Ok(None),
     }
 }
 
-/// The record to keep of two, the one that covers the other; the first if they are
-/// equivalent. None if they are malformed or incomparable.
+/// The record to keep of two, and why the other may be dropped.
+#[derive(Clone, Copy, Debug, PartialEq, Eq)]
+pub struct Kept<'r> {
+    /// The record that covers the other.
+    pub record: &'r [u8],
+    /// The record that it covers.
+    pub dropped: &'r [u8],
+    /// Where the variables of the record that is kept go.
+    pub map: Map,
+}
+
+/// The record to keep of two, the one that covers the other, with the map that shows it; the
+/// first if they are equivalent. None if they are malformed or incomparable.
+///
+/// ```
+/// let (any, named) = ([1, 0, 0, 255, 255, 255], [1, 0, 128, 255, 255, 255]);
+/// let kept = rauntiko::kept(&named, &any).expect("one covers the other");
+/// assert_eq!((kept.record, kept.dropped), (&any[..], &named[..]));
+/// assert_eq!(kept.map.to_string(), "v0 to c0");
+/// ```
+pub fn kept<'r>(first: &'r [u8], second: &'r [u8]) -> Option<Kept<'r>> {
+    let raw::Kept { which, map } = raw::kept(first, second);
+    let (record, dropped) = match which {
+        1 => (first, second),
+        2 => (second, first),
+        _ => return None,
+    };
+    Some(Kept {
+        record,
+        dropped,
+        map: Map::written(map),
+    })
+}
+
+/// The record to keep of two, without the map.
 pub fn keep<'r>(first: &'r [u8], second: &'r [u8]) -> Option<&'r [u8]> {
-    match raw::kept(first, second) {
-        1 => Some(first),
-        2 => Some(second),
-        _ => None,
-    }
+    kept(first, second).map(|kept| kept.record)
 }

@@ -38,8 +38,8 @@
 //! # Ok::<(), rauntiko::Refusal>(())
 //! ```
 //!
-//! [`covers`] and [`keep`] are the search desk's; [`raw`] has the routines with their plain
-//! numbers.
+//! [`covers`], [`kept`] and [`keep`] are the search desk's: which of two member records covers
+//! the other, and by which [`Map`]. [`raw`] has the routines with their plain numbers.
 //!
 //! Building asks the Rattle kit's `rt`, which must be on the PATH, to prove the routines and to
 //! make an archive of them: some minutes the first time, then seconds. Where the variable
@@ -49,6 +49,7 @@
 #![warn(missing_docs)]
 
 mod desk;
+mod map;
 mod print;
 pub mod raw;
 mod refusal;
@@ -56,7 +57,8 @@ mod refusal;
 mod sys;
 mod union;
 
-pub use desk::{covers, keep, Malformed};
+pub use desk::{covers, keep, kept, Kept, Malformed};
+pub use map::Map;
 pub use refusal::Refusal;
 pub use union::{Atom, Member, Members, Term, Terms, Union};
 

@@ -23,14 +23,44 @@ pub fn run(book: &[u8], out: &mut [u8]) -> Answer {
     Answer { number, place }
 }
 
-/// If the first member record covers the second: 0 no, 1 yes, 2 first malformed, 3 second
-/// malformed; 2 wins.
-pub fn covers(first: &[u8], second: &[u8]) -> u8 {
-    sys::covers(first, second)
+/// How many bytes a map has: one for each variable that a member record may have.
+pub const MAP: usize = 64;
+
+/// What [`covers`] gives.
+#[derive(Clone, Copy, Debug, PartialEq, Eq)]
+pub struct Covered {
+    /// 0 no, 1 yes, 2 first malformed, 3 second malformed; 2 wins.
+    pub number: u8,
+    /// The first map of the first record to the second: byte v is the byte of the term that
+    /// variable v goes to. 255 where v does not stand in the first record, and everywhere if
+    /// the number is not 1.
+    pub map: [u8; MAP],
 }
 
-/// Which of two member records to keep: 1 the first, which covers the second; 2 the second,
-/// which alone covers the other; 0 neither, since they are malformed or incomparable.
-pub fn kept(first: &[u8], second: &[u8]) -> u8 {
-    sys::kept(first, second)
+/// What [`kept`] gives.
+#[derive(Clone, Copy, Debug, PartialEq, Eq)]
+pub struct Kept {
+    /// 1 the first, which covers the second; 2 the second, which alone covers the other; 0
+    /// neither, since they are malformed or incomparable.
+    pub which: u8,
+    /// The first map of the record that is kept to the other, as in [`Covered`]; all 255 if
+    /// neither is.
+    pub map: [u8; MAP],
+}
+
+/// If the first member record covers the second, and by which map.
+///
+/// Of all sequences of candidates, one for each atom of the first record in its order, that
+/// some map allows, the map is that of the first. An answer record is placed before the atoms.
+pub fn covers(first: &[u8], second: &[u8]) -> Covered {
+    let mut map = [0; MAP];
+    let number = sys::covers(first, second, &mut map);
+    Covered { number, map }
+}
+
+/// Which of two member records to keep, and by which map it covers the other.
+pub fn kept(first: &[u8], second: &[u8]) -> Kept {
+    let mut map = [0; MAP];
+    let which = sys::kept(first, second, &mut map);
+    Kept { which, map }
 }

@@ -17,6 +17,8 @@ extern "C" {
         first_len: usize,
         second: *const u8,
         second_len: usize,
+        map: *mut u8,
+        map_len: usize,
     ) -> u8;
 
     fn rauntiko_kept(
@@ -24,6 +26,8 @@ extern "C" {
         first_len: usize,
         second: *const u8,
         second_len: usize,
+        map: *mut u8,
+        map_len: usize,
     ) -> u8;
 }
 
@@ -40,14 +44,82 @@ pub fn run(book: &[u8], out: &mut [u8]) -> (u8, usize) {
     (number, place)
 }
 
-/// What covering gives.
-pub fn covers(first: &[u8], second: &[u8]) -> u8 {
+/// What covering gives, and as much of the map as there is room for.
+pub fn covers(first: &[u8], second: &[u8], map: &mut [u8]) -> u8 {
+    let (bytes, room) = (map.as_mut_ptr(), map.len());
     // SAFETY: as said above.
-    unsafe { rauntiko_covers(first.as_ptr(), first.len(), second.as_ptr(), second.len()) }
+    unsafe {
+        rauntiko_covers(
+            first.as_ptr(),
+            first.len(),
+            second.as_ptr(),
+            second.len(),
+            bytes,
+            room,
+        )
+    }
 }
 
-/// Which of the two is kept.
-pub fn kept(first: &[u8], second: &[u8]) -> u8 {
+/// Which of the two is kept, and as much of the map as there is room for.
+pub fn kept(first: &[u8], second: &[u8], map: &mut [u8]) -> u8 {
+    let (bytes, room) = (map.as_mut_ptr(), map.len());
     // SAFETY: as said above.
-    unsafe { rauntiko_kept(first.as_ptr(), first.len(), second.as_ptr(), second.len()) }
+    unsafe {
+        rauntiko_kept(
+            first.as_ptr(),
+            first.len(),
+            second.as_ptr(),
+            second.len(),
+            bytes,
+            room,
+        )
+    }
+}
+
+#[cfg(test)]
+mod tests {
+    use super::{covers, kept};
+
+    /// q(v0) p(v0,v63) and q(c0) p(c0,v5): the first covers the second alone.
+    const GENERAL: &[u8] = &[2, 1, 0, 255, 255, 255, 0, 0, 63, 255, 255];
+    const SPECIAL: &[u8] = &[2, 1, 128, 255, 255, 255, 0, 128, 5, 255, 255];
+
+    /// What stands in a buffer before.
+    const BEFORE: u8 = 77;
+
+    /// The map of the first to the second.
+    fn map() -> [u8; 64] {
+        let mut map = [255; 64];
+        (map[0], map[63]) = (128, 5);
+        map
+    }
+
+    /// That a buffer of each room gets this number, as many of the 64 bytes as it has room for,
+    /// and nothing else.
+    fn lent(ask: impl Fn(&mut [u8]) -> u8, number: u8, map: [u8; 64]) {
+        for room in [0, 1, 2, 63, 64, 65, 100] {
+            let mut bytes = vec![BEFORE; room];
+            assert_eq!(ask(&mut bytes), number, "room {room}");
+            let written = room.min(64);
+            assert_eq!(bytes[..written], map[..written], "room {room}");
+            assert!(bytes[written..].iter().all(|&byte| byte == BEFORE));
+        }
+    }
+
+    #[test]
+    fn as_much_of_the_map_is_written_as_there_is_room_for() {
+        lent(|bytes| covers(GENERAL, SPECIAL, bytes), 1, map());
+        lent(|bytes| kept(GENERAL, SPECIAL, bytes), 1, map());
+        lent(|bytes| kept(SPECIAL, GENERAL, bytes), 2, map());
+    }
+
+    #[test]
+    fn without_a_covering_all_of_the_map_is_255() {
+        let none = [255; 64];
+        lent(|bytes| covers(SPECIAL, GENERAL, bytes), 0, none);
+        lent(|bytes| covers(&[], GENERAL, bytes), 2, none);
+        lent(|bytes| covers(GENERAL, &[12], bytes), 3, none);
+        lent(|bytes| kept(GENERAL, &[12], bytes), 0, none);
+        lent(|bytes| kept(GENERAL, &GENERAL[..6], bytes), 0, none);
+    }
 }

@@ -7,7 +7,7 @@ const ATOM: usize = 5;
 const ANSWER: u8 = 255;
 
 /// The byte of an unused place.
-const UNUSED: u8 = 255;
+pub(crate) const UNUSED: u8 = 255;
 
 /// The byte of the first constant.
 const FIRST_CONSTANT: u8 = 128;
@@ -152,10 +152,7 @@ impl Iterator for Terms<'_> {
     fn next(&mut self) -> Option<Term> {
         let (&byte, rest) = self.places.split_first()?;
         self.places = rest;
-        Some(match byte.checked_sub(FIRST_CONSTANT) {
-            None => Term::Variable(byte),
-            Some(number) => Term::Constant(number),
-        })
+        Some(Term::of(byte))
     }
 
     fn size_hint(&self) -> (usize, Option<usize>) {
@@ -172,4 +169,14 @@ pub enum Term {
     Variable(u8),
     /// A constant by its number in the book.
     Constant(u8),
+}
+
+impl Term {
+    /// The term that the byte of a used place is.
+    pub(crate) fn of(byte: u8) -> Term {
+        match byte.checked_sub(FIRST_CONSTANT) {
+            None => Term::Variable(byte),
+            Some(number) => Term::Constant(number),
+        }
+    }
 }

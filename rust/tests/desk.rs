@@ -1,9 +1,20 @@
 //! The search desk on some thousand pairs, against the second program.
 
-use rauntiko::{covers, keep, raw, rewrite, Malformed};
-use second::pairs::{next, Kinds};
+use rauntiko::{covers, keep, kept, raw, rewrite, Malformed, Map, Term};
+use second::kinds::Kinds;
+use second::pairs::next;
 use second::random::Random;
 use second::{book, desk, generate};
+
+/// What this crate says of two records, as numbers and bytes again.
+fn said(first: &[u8], second: &[u8]) -> (u8, [u8; 64]) {
+    match covers(first, second) {
+        Ok(Some(map)) => (1, *map.as_bytes()),
+        Ok(None) => (0, [255; 64]),
+        Err(Malformed::First) => (2, [255; 64]),
+        Err(Malformed::Second) => (3, [255; 64]),
+    }
+}
 
 #[test]
 fn both_sides_say_the_same_of_every_pair() {
@@ -13,20 +24,20 @@ fn both_sides_say_the_same_of_every_pair() {
         let pair = next(&mut random);
         kinds.count(&pair);
         let (first, second) = (&pair.0[..], &pair.1[..]);
-        let (number, which) = (raw::covers(first, second), raw::kept(first, second));
-        assert_eq!(number, desk::covers(first, second), "{pair:?}");
-        assert_eq!(which, desk::kept(first, second), "{pair:?}");
-        let said = match covers(first, second) {
-            Ok(yes) => yes as u8,
-            Err(Malformed::First) => 2,
-            Err(Malformed::Second) => 3,
-        };
-        assert_eq!(said, number, "{pair:?}");
-        let expected = match desk::keep(first, second) {
+        let raw::Covered { number, map } = raw::covers(first, second);
+        let theirs = desk::covers(first, second);
+        assert_eq!((number, map), (theirs.number, theirs.map), "{pair:?}");
+        assert_eq!(said(first, second), (number, map), "{pair:?}");
+        let raw::Kept { which, map } = raw::kept(first, second);
+        let theirs = desk::kept(first, second);
+        assert_eq!((which, map), (theirs.which, theirs.map), "{pair:?}");
+        let part = match desk::keep(first, second) {
             [] => None,
             part => Some(part),
         };
-        assert_eq!(keep(first, second), expected, "{pair:?}");
+        assert_eq!(keep(first, second), part, "{pair:?}");
+        let found = kept(first, second).map(|kept| (kept.record, *kept.map.as_bytes()));
+        assert_eq!(found, part.map(|part| (part, map)), "{pair:?}");
     }
     assert!(kinds.counts.iter().all(|&count| count > 0));
 }
@@ -38,7 +49,68 @@ fn a_kept_record_is_the_one_that_was_given() {
     assert!(std::ptr::eq(keep(&first, &second).unwrap(), &first[..]));
     let special = [1, 0, 128, 255, 255, 255];
     assert!(std::ptr::eq(keep(&special, &second).unwrap(), &second[..]));
+    let told = kept(&special, &second).unwrap();
+    assert!(std::ptr::eq(told.record, &second[..]) && std::ptr::eq(told.dropped, &special[..]));
     assert_eq!(keep(&[], &second), None);
+    assert_eq!(kept(&second, &[]), None);
+}
+
+/// The map of a record with these atoms to another, which it covers.
+fn map(first: &[[u8; 5]], second: &[[u8; 5]]) -> Map {
+    let record = |atoms: &[[u8; 5]]| [&[atoms.len() as u8][..], &atoms.concat()].concat();
+    covers(&record(first), &record(second)).unwrap().unwrap()
+}
+
+#[test]
+fn a_map_says_where_each_variable_goes() {
+    let found = map(&[[0, 63, 5, 128, 255]], &[[0, 254, 0, 128, 255]]);
+    assert_eq!(found.term(63), Some(Term::Constant(126)));
+    assert_eq!(found.term(5), Some(Term::Variable(0)));
+    for variable in [0, 4, 62, 64, 128, 255] {
+        assert_eq!(found.term(variable), None);
+    }
+    let all = [(5, Term::Variable(0)), (63, Term::Constant(126))];
+    assert!(found.iter().eq(all));
+    assert_eq!(found.to_string(), "v5 to v0, v63 to c126");
+    assert_eq!(format!("{found:?}"), "Map(v5 to v0, v63 to c126)");
+    assert_eq!(found.image(Term::Variable(5)), Term::Variable(0));
+    assert_eq!(found.image(Term::Variable(6)), Term::Variable(6));
+    assert_eq!(found.image(Term::Constant(0)), Term::Constant(0));
+}
+
+#[test]
+fn the_first_map_is_given() {
+    let q = |term: u8| [1, term, 255, 255, 255];
+    let p = |a: u8, b: u8| [0, a, b, 255, 255];
+    let facts = [p(129, 5), p(128, 6), q(128), q(129)];
+    let found = map(&[q(0), p(0, 1)], &facts);
+    assert_eq!(found.to_string(), "v0 to c0, v1 to v6");
+    let turned = map(&[p(0, 1), q(0)], &facts);
+    assert_eq!(turned.to_string(), "v0 to c1, v1 to v5");
+    assert_eq!(map(&[], &facts).to_string(), "");
+}
+
+#[test]
+fn a_map_sends_every_atom_of_the_kept_record_to_one_of_the_other() {
+    let mut random = Random::new(15);
+    let mut sent = 0;
+    for _ in 0..4000 {
+        let (first, second) = next(&mut random);
+        let Some(found) = kept(&first, &second) else {
+            continue;
+        };
+        let image = |place: &u8| match place {
+            ..=63 => found.map.as_bytes()[usize::from(*place)],
+            _ => *place,
+        };
+        for atom in found.record[1..].chunks(5) {
+            let mut image: Vec<u8> = atom.iter().map(image).collect();
+            image[0] = atom[0];
+            assert!(found.dropped[1..].chunks(5).any(|other| other == image));
+            sent += 1;
+        }
+    }
+    assert!(sent > 1000, "{sent}");
 }
 
 #[test]
@@ -59,7 +131,8 @@ fn members_of_a_union_are_records_and_none_covers_another() {
         };
         for (i, a) in union.members().enumerate() {
             for (j, b) in union.members().enumerate() {
-                assert_eq!(covers(a.as_record(), b.as_record()), Ok(i == j));
+                let map = covers(a.as_record(), b.as_record()).unwrap();
+                assert_eq!(map.is_some(), i == j);
                 pairs += 1;
             }
         }

@@ -1,15 +1,16 @@
 //! The comparer for the search desk: `compare-desk [--seconds N] [--count N] [--seed S]
-//! [--threads N] [--against CMD ARG..]`. Compares covering and keeping on generated pairs in
-//! this process. CMD is a batch program, given some of them: it reads two records for each
-//! pair, each a little-endian length of four bytes and then its bytes; it writes a line
-//! `covers K keep first` (or `second` or `none`), then a line with a single full stop. Fails
-//! at the first difference, and if a kind of pair was not met.
+//! [--threads N] [--against CMD ARG..]`. Compares covering and keeping, their numbers and
+//! maps, on generated pairs in this process. CMD is a batch program, given some of them: it
+//! reads two records for each pair, each a little-endian length of four bytes and then its
+//! bytes; it writes a line `covers K keep first` (or `second` or `none`), then how the kept
+//! one covers the other, then a line with a single full stop. Fails at the first difference,
+//! and if a kind of pair was not met.
 
 use compare::asked::Asked;
 use compare::blocks::{each_block, rate, BLOCK};
 use compare::desk::{compare_batch, compare_pair, generated};
-use compare::side::SIDES;
-use second::pairs::Kinds;
+use compare::side::{told, SIDES};
+use second::kinds::Kinds;
 use std::process::ExitCode;
 use std::time::Instant;
 
@@ -51,7 +52,7 @@ fn main() -> ExitCode {
             return ExitCode::FAILURE;
         }
     };
-    println!("{}{rate}", kinds.table());
+    println!("{}{rate}\n{}", kinds.table(), told(SIDES));
     println!("pairs {}, differences 0", kinds.pairs);
     match kinds.counts.contains(&0) {
         false => ExitCode::SUCCESS,

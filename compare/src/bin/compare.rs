@@ -11,7 +11,7 @@ use compare::blocks::{each_block, rate, BLOCK};
 use compare::comparison::Comparison;
 use compare::output::takes_small_output;
 use compare::programs::{compare_batch, compare_program};
-use compare::side::SIDES;
+use compare::side::{told, SIDES};
 use compare::Named;
 use second::seen::Behaviour;
 use second::{generate, limits, random::Random};
@@ -106,7 +106,7 @@ fn compare_all(asked: Asked) -> Result<(Comparison<'static>, String), String> {
 /// Tells what was compared and met; whether every behaviour was.
 fn report(comparison: &Comparison, rate: &str) -> bool {
     print!("{}", comparison.seen.table());
-    println!("{rate}\n{}", comparison.times());
+    println!("{rate}\n{}\n{}", comparison.times(), told(SIDES));
     let (took, name) = &comparison.slowest;
     println!("slowest: {name}, {:.2} s", took.as_secs_f64());
     let complete = comparison.seen.count(Behaviour::Complete);
