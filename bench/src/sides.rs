@@ -19,7 +19,7 @@ pub const PROVED: Side = Side {
         let answer = rauntiko::raw::run(book, out);
         (answer.number, answer.place)
     },
-    covers: |first, second| rauntiko::raw::covers(first, second),
+    covers: |first, second| rauntiko::raw::covers(first, second).number,
 };
 
 /// The same exploration in plain Rust.

@@ -81,7 +81,7 @@ fn second_answer(task: &Task) -> Vec<u8> {
     match &task.work {
         Work::Covers(pairs) => pairs
             .iter()
-            .map(|(a, b)| second::desk::covers(a, b))
+            .map(|(a, b)| second::desk::covers(a, b).number)
             .collect(),
         Work::Run(book) => {
             let mut out = [0xa5; ROOM];
