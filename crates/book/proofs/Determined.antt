@@ -14,7 +14,7 @@ use Rattle.covering.proofs.Tests.{le-or-lt}
 use Rattle.reading.proofs.Exact.{verdict-only}
 use Rattle.book.proofs.check.Reads as check-reads
 use Rattle.book.proofs.read.Reads as read-reads
-use Rattle.book.proofs.header.answers.Reads as answers-reads
+use Rattle.judging.proofs.answers.Reads as answers-reads
 use Rattle.book.proofs.starts.Reads as starts-reads
 use Rattle.book.proofs.rule_at.Reads as rule-at-reads
 use Rattle.book.proofs.question.Reads as question-reads

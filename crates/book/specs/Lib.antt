@@ -1,3 +1,2 @@
 -- What only the contracts of this crate's functions are said with. That of `check` cites `reading` alone.
-pub mod Judged
 pub mod Parts

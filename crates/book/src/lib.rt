@@ -1,9 +1,4 @@
 // The stored book: its rules and its question.
-mod answer;
-mod header;
-mod judge;
-mod word;
-
 ghost use mathlib.Core.Path.{_≡_};
 ghost use Prim.Native.Nat.{_+_, _≤_};
 ghost use lib.ListN.{length};
@@ -15,16 +10,16 @@ ghost use Rattle.covering.specs.Asking.{joined};
 ghost use Rattle.covering.specs.Record.{stored};
 ghost use Rattle.covering.specs.Buffer.{heldIn, recordRoom};
 use covering::RECORD;
-pub use header::answers;
-use header::in_table;
-use header::offsets_right;
-use judge::contents;
+use judging::ATOM;
+use judging::HEADER;
+pub use judging::answers;
+use judging::contents;
+use judging::in_table;
+use judging::offsets_right;
+use judging::wide;
+use judging::word;
 pub use reading::Header;
 pub use reading::Refusal;
-use word::ATOM;
-use word::HEADER;
-use word::wide;
-use word::word;
 
 // Where the body and the head of a rule start in the book, and how many atoms each has.
 pub struct Parts {

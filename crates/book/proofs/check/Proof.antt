@@ -8,7 +8,7 @@ use Rattle.covering.proofs.Tests.{true→T}
 use lib.ListN.{length}
 use Rattle.reading.specs.Header.{headerOf}
 use Rattle.reading.specs.Verdict.{inTable, offsetsRight}
-use Rattle.book.proofs.JudgingSteps.{verdict-two, verdict-three, verdict-four, verdict-contents}
+use Rattle.judging.proofs.JudgingSteps.{verdict-two, verdict-three, verdict-four, verdict-contents}
 use Rattle.book.proofs.check.Statement.{statement}
 use Rattle.book.proofs.check.Tie as tie
 

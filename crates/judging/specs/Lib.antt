@@ -1,0 +1,2 @@
+-- What only the contracts of this crate's functions are said with.
+pub mod Judged

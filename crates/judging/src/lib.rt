@@ -1,0 +1,16 @@
+// Judging a stored book: its header, its relations, its rules and every byte of its atoms, in the order of the refusals.
+mod answer;
+mod header;
+mod judge;
+mod words;
+
+pub use header::answers;
+pub use header::in_table;
+pub use header::offsets_right;
+pub use judge::contents;
+use reading::Header;
+use reading::Refusal;
+pub use words::ATOM;
+pub use words::HEADER;
+pub use words::wide;
+pub use words::word;
