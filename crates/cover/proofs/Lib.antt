@@ -7,5 +7,6 @@ pub mod Meeting
 pub mod Ahead
 pub mod SearchSteps
 pub mod Turns
+pub mod Leads
 -- what each contract determines
 pub mod Determined

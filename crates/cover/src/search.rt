@@ -6,12 +6,14 @@ use crate::place::send;
 use crate::place::take_back;
 ghost use mathlib.Core.Path.{_≡_};
 ghost use Prim.Native.Nat.{_+_, _*_, _≤_, _<_};
-ghost use lib.Dec.{T};
+ghost use lib.Dec.{T, eqb};
 ghost use lib.ListN.{length, getD};
-ghost use Rattle.covering.specs.Lists.{all};
-ghost use Rattle.covering.specs.Search.{findMap, covers};
-ghost use Rattle.cover.specs.Candidates.{placedOn, foundOn, hasCandidate};
-ghost use Rattle.covering.specs.Record.{stored, isAtom, atomAt, atomsAt, questionOf, SoundRecord};
+ghost use mathlib.Core.Bool.{true, not, _&&_};
+ghost use Rattle.covering.specs.Lists.{isSome, any, all};
+ghost use Rattle.covering.specs.Term.{terms, eqTerm};
+ghost use Rattle.covering.specs.Search.{placeAtom, findMap, covers};
+ghost use Rattle.cover.specs.Candidates.{placedOn, foundOn, hasCandidate, newTo, leadsOn};
+ghost use Rattle.covering.specs.Record.{stored, termOf, argsAt, isAtom, atomAt, atomsAt, questionOf, SoundRecord};
 ghost use Rattle.cover.specs.HeldMap.{partOf, Searched};
 ghost use Rattle.covering.specs.Buffer.{AtomsIn};
 
@@ -61,6 +63,107 @@ fn all_have(first: &[u8], second: &[u8], map: &[u8], i: usize, left: usize, w: u
     true
 }
 
+// Whether t is one of the places of the atom of first at i.
+fn stands_at(first: &[u8], i: usize, t: u8) -> bool
+    requires { ⌜ (i + 5 ≤ length (now first)) × (t < 64) ⌝ }
+    ensures { λ r. ⌜ r ≡ any (eqTerm (termOf t)) (argsAt (now (first .entry)) (i + 1) 4) ⌝ }
+{
+    let mut j = 0;
+    while j < 4 {
+        let u = first[i + 1 + j];
+        if u == t {
+            return true;
+        }
+        if u == 255 {
+            return false;
+        }
+        j += 1;
+    }
+    false
+}
+
+// Whether t stands in one of the `left` atoms of first from i on.
+fn stands_in(first: &[u8], i: usize, left: usize, t: u8) -> bool
+    requires { ⌜ (i + left * 5 ≤ length (now first)) × (t < 64) ⌝ }
+    ensures { λ r. ⌜ r ≡ any (eqTerm (termOf t)) (terms (atomsAt stored (now (first .entry)) i left)) ⌝ }
+{
+    let mut at = i;
+    let mut more = left;
+    while 0 < more {
+        if stands_at(first, at, t) {
+            return true;
+        }
+        at += 5;
+        more -= 1;
+    }
+    false
+}
+
+// Whether the place u of an atom is a variable that goes nowhere yet and stands in the `left` atoms of first from i on.
+fn place_leads(first: &[u8], map: &[u8], i: usize, left: usize, u: u8) -> bool
+    requires { ⌜ (length (now map) ≡ 64) × (i + left * 5 ≤ length (now first)) × (64 ≤ u → 128 ≤ u) ⌝ }
+    ensures { λ r. ⌜ r
+        ≡ (newTo (partOf (now (map .entry))) (termOf u)
+        && any (eqTerm (termOf u)) (terms (atomsAt stored (now (first .entry)) i left))) ⌝ }
+{
+    if 64 <= u {
+        return false;
+    }
+    if map[u as usize] != 255 {
+        return false;
+    }
+    stands_in(first, i, left, u)
+}
+
+// Whether the atom of first at i brings the `left` atoms after it a variable that goes nowhere yet.
+fn leads_on(first: &[u8], map: &[u8], i: usize, left: usize) -> bool
+    requires { ⌜ (length (now map) ≡ 64) × AtomsIn stored (now first) i (left + 1) ⌝ }
+    ensures { λ r. ⌜ r
+        ≡ leadsOn
+        (partOf (now (map .entry)))
+        (atomAt stored (now (first .entry)) i)
+        (atomsAt stored (now (first .entry)) (i + 5) left) ⌝ }
+{
+    let mut j = 0;
+    while j < 4 {
+        let u = first[i + 1 + j];
+        if u == 255 {
+            return false;
+        }
+        if place_leads(first, map, i + 5, left, u) {
+            return true;
+        }
+        j += 1;
+    }
+    false
+}
+
+// What becomes of a candidate: the atom does not meet it; it and those after it are placed; it meets it, and those after
+// it cannot be placed.
+const APART: u8 = 0;
+
+const PLACED: u8 = 1;
+
+const MET: u8 = 2;
+
+// Whether no other candidate has to be tried: the atom of first at i met this one, those after it could not be placed, and
+// it brings them nothing new, so that they cannot be placed wherever it goes.
+fn gives_up(first: &[u8], map: &[u8], i: usize, left: usize, tried: u8) -> bool
+    requires { ⌜ (length (now map) ≡ 64) × AtomsIn stored (now first) i (left + 1) ⌝ }
+    ensures { λ r. ⌜ r
+        ≡ (eqb tried 2
+        && not
+        (leadsOn
+        (partOf (now (map .entry)))
+        (atomAt stored (now (first .entry)) i)
+        (atomsAt stored (now (first .entry)) (i + 5) left))) ⌝ }
+{
+    if tried != MET {
+        return false;
+    }
+    !leads_on(first, map, i, left)
+}
+
 // Takes the next atom: places the `left` atoms of first from i on, in order, on the w atoms of second, the next one on
 // the first candidate from which those after it can be placed too. A branch in which some atom has no candidate any more
 // ends at once; that changes no answer.
@@ -93,8 +196,12 @@ pub fn place_next(
     let mut k = 1;
     let mut more = w;
     while 0 < more {
-        if try_candidate(first, second, map, i, left - 1, k, w) {
+        let tried = try_candidate(first, second, map, i, left - 1, k, w);
+        if tried == PLACED {
             return true;
+        }
+        if gives_up(first, map, i, left - 1, tried) {
+            return false;
         }
         k += 5;
         more -= 1;
@@ -103,7 +210,7 @@ pub fn place_next(
 }
 
 // Tries the next candidate: the atom of first at i goes to the atom of second at k, and the `left` atoms after it are
-// placed; where they cannot be, it is taken back.
+// placed; where they cannot be, it is taken back. Says whether it met the candidate, and whether all were placed.
 fn try_candidate(
     first: &[u8],
     second: &[u8],
@@ -112,7 +219,7 @@ fn try_candidate(
     left: usize,
     k: usize,
     w: usize,
-) -> bool
+) -> u8
     requires { ⌜ (length (now map) ≡ 64)
         × AtomsIn stored (now first) i (left + 1)
         × (k + 5 ≤ length (now second))
@@ -126,17 +233,24 @@ fn try_candidate(
         (atomAt stored (now (second .entry)) k))
         (now (map .entry))
         (now (map .exit))
-        r ⌝ }
+        (eqb r 1)
+        × (r ≡ 2
+        → isSome
+        (placeAtom
+        (partOf (now (map .entry)))
+        (atomAt stored (now (first .entry)) i)
+        (atomAt stored (now (second .entry)) k))
+        ≡ true) ⌝ }
 {
     if !meets(first, second, map, i, k) {
-        return false;
+        return APART;
     }
     let before = send(first, second, map, i + 1, k + 1);
     if place_next(first, second, map, i + 5, left, w) {
-        return true;
+        return PLACED;
     }
     take_back(first, map, i + 1, before);
-    false
+    MET
 }
 
 // Whether the first record covers the second, where both are known to be sound and count all their atoms.
@@ -171,5 +285,5 @@ pub fn covers_on(first: &[u8], second: &[u8], map: &mut [u8], k: usize) -> bool
 {
     let n = first[0] as usize;
     let w = second[0] as usize;
-    try_candidate(first, second, map, 1, n - 1, 1 + k * 5, w)
+    try_candidate(first, second, map, 1, n - 1, 1 + k * 5, w) == PLACED
 }

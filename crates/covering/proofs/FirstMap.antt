@@ -19,10 +19,10 @@ use Rattle.covering.proofs.Terms.{eq→eqTerm}
 use Rattle.covering.proofs.Decides.{Respects, atom-tells, atom-yields, search-complete, total, total-respects}
 
 -- what placing terms does to the map: what was there stays, the terms' variables go somewhere, the others stay
-record Grows (p q : Part) (ts : List Term) : Type 0 where
-  stays : (n : ℕ) (t : Term) → p n ≡ some t → q n ≡ some t
-  there : (n : ℕ) → var n ∈ ts → (t : Term) × (q n ≡ some t)
-  other : (n : ℕ) → (var n ∈ ts → ⊥) → q n ≡ p n
+pub record Grows (p q : Part) (ts : List Term) : Type 0 where
+  pub stays : (n : ℕ) (t : Term) → p n ≡ some t → q n ≡ some t
+  pub there : (n : ℕ) → var n ∈ ts → (t : Term) × (q n ≡ some t)
+  pub other : (n : ℕ) → (var n ∈ ts → ⊥) → q n ≡ p n
 
 none-grows : (p : Part) → Grows p p []
 none-grows p = record { stays = λ n t e. e; there = λ n m. absurd (List·Memᴰ·not-nil m); other = λ n f. refl }
@@ -99,7 +99,7 @@ terms-grow p q (t ∷ ts) (u ∷ us) e = go (placeTerm p t u) refl e (λ r. term
     go none h f below = absurd (none≢some f)
     go (some r) h f below = more-grows p r q (t ∷ []) ts (term-grows p r t u h) (below r f)
 
-atom-grows : (p q : Part) (a b : Atom) → placeAtom p a b ≡ some q → Grows p q (a .args)
+pub atom-grows : (p q : Part) (a b : Atom) → placeAtom p a b ≡ some q → Grows p q (a .args)
 atom-grows p q a b e = go (decide (eqb (a .rel) (b .rel)))
   where
     r : Option Part

@@ -11,6 +11,7 @@ pub mod Decides
 pub mod First
 pub mod FirstMap
 pub mod OneFirst
+pub mod Local
 -- the form of a question
 pub mod Form
 pub mod Sifted

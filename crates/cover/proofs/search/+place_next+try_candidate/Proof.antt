@@ -3,9 +3,9 @@
 -- a candidate. The loop's invariant: the map is as it came, and what the search finds, trying the candidates from here
 -- on finds.
 use native.Mathlib.Omega.{arith}
-use mathlib.Core.Path.{_≡_, refl, sym, _∙_}
+use mathlib.Core.Path.{_≡_, refl, sym, ap, _∙_}
 use Prim.Native.Nat.{ℕ, _+_, _*_, _-_, _≤_, _<_}
-use borrow.Author.Tests.{not-true, not-false}
+use borrow.Author.Tests.{not-true, not-false, eq-eqb, ne-eqb}
 use lib.ListN.{length}
 use Rattle.covering.specs.Search.{findMap}
 use Rattle.covering.specs.Record.{stored, atomAt, atomsAt}
@@ -16,6 +16,7 @@ use Rattle.cover.specs.HeldMap.{partOf}
 use Rattle.cover.proofs.Ahead.{dead-end}
 use Rattle.cover.proofs.SearchSteps.{search-done, search-next, tried-none, found, not-found}
 use Rattle.cover.proofs.SearchSteps.{one-serves, one-fails}
+use Rattle.cover.proofs.Leads.{search-ends}
 use Rattle.cover.proofs.Turns.{not-met, serves, taken-back}
 use borrow.Fn.Kinds.{In}
 use borrow.Fn.PlainCycle.{Measures, is, falls, and}
@@ -29,6 +30,7 @@ use Rattle.cover.proofs.place.meets.Reads as meets-reads
 use Rattle.cover.proofs.place.send.Reads as send-reads
 use Rattle.cover.proofs.place.take_back.Reads as take-back-reads
 use Rattle.cover.proofs.search.all_have.Reads as all-have-reads
+use Rattle.cover.proofs.search.gives_up.Reads as gives-up-reads
 use Rattle.cover.proofs.search.+place_next+try_candidate.{statement}
 use Rattle.cover.proofs.search.+place_next+try_candidate.Tie.{close}
 
@@ -75,7 +77,7 @@ place-next-μ-loop first second map₀ i left w k₀ more₀ map k more = more
 
 -- what is asked of and learnt from what `place-next` calls
 abbrev place-next-calls : ℕ → place-next-lts.Claims
-place-next-calls t = (all-have-reads.Asked, all-have-reads.Learnt, try-candidate-below t, try-candidate.Post)
+place-next-calls t = (all-have-reads.Asked, all-have-reads.Learnt, try-candidate-below t, try-candidate.Post, gives-up-reads.Asked, gives-up-reads.Learnt)
 
 -- what is asked of and learnt from what `try-candidate` calls
 abbrev try-candidate-calls : ℕ → try-candidate-lts.Claims
@@ -118,13 +120,40 @@ place-next-same-length-2 : (t : ℕ) → place-next-lts.Need-same-length-2 (plac
 place-next-same-length-2 t c =
     let d = c .before .before .before in
     let l = d .before .before .before in
-    d .try-candidate .kept .1 .1 .0 ∙ rw (l .loop .inv .1) refl
+    d .try-candidate .kept .1 .1 .0 ∙ ap length (l .loop .inv .1)
 
 place-next-returns-3 : (t : ℕ) → place-next-lts.Need-returns-3 (place-next-calls t) (place-next-at t) place-next.Post place-next-Inv-loop place-next-μ-loop
 place-next-returns-3 t c =
     let d = c .before .before .before in
     let l = d .before .before .before in
-    one-serves stored _ _ _ _ _ _ _ _ _ (omega arith) (l .loop .inv .1) (l .loop .inv .2) (d .try-candidate .ensures) (c .if3 .taken)
+    one-serves stored _ _ _ _ _ _ _ _ _ (omega arith) (l .loop .inv .1) (l .loop .inv .2) (d .try-candidate .ensures .0)
+    (eq-eqb _ 1 (c .if3 .taken))
+
+place-next-sub-gives-up : (t : ℕ) → place-next-lts.Need-sub-gives-up (place-next-calls t) (place-next-at t) place-next.Post place-next-Inv-loop place-next-μ-loop
+place-next-sub-gives-up t c = omega arith
+
+place-next-gives-up-requires : (t : ℕ) → place-next-lts.Need-gives-up-requires (place-next-calls t) (place-next-at t) place-next.Post place-next-Inv-loop place-next-μ-loop
+place-next-gives-up-requires t c κs =
+    let d = c .before .before .before .before in
+    let l = d .before .before .before in
+    let pre = l .before .before .before .before .before .before .before .before .pre .1 in (
+      d .try-candidate .kept .1 .1 .0 ∙ ap length (l .loop .inv .1) ∙ pre .0,
+      in-first stored _ _ _ (pre .1) (omega arith),
+    )
+
+place-next-same-length-3 : (t : ℕ) → place-next-lts.Need-same-length-3 (place-next-calls t) (place-next-at t) place-next.Post place-next-Inv-loop place-next-μ-loop
+place-next-same-length-3 t c =
+    let d = c .before .before .before .before .before .before in
+    let l = d .before .before .before in
+    d .try-candidate .kept .1 .1 .0 ∙ ap length (l .loop .inv .1)
+
+place-next-returns-4 : (t : ℕ) → place-next-lts.Need-returns-4 (place-next-calls t) (place-next-at t) place-next.Post place-next-Inv-loop place-next-μ-loop
+place-next-returns-4 t c =
+    let g = c .before in
+    let d = g .before .before .before .before .before in
+    let l = d .before .before .before in
+    search-ends _ _ _ _ _ _ _ _ _ _ (l .loop .inv .1) (l .loop .inv .2) (d .try-candidate .ensures .0)
+    (d .try-candidate .ensures .1) (sym (g .gives-up .ensures) ∙ c .if4 .taken)
 
 place-next-add-k : (t : ℕ) → place-next-lts.Need-add-k (place-next-calls t) (place-next-at t) place-next.Post place-next-Inv-loop place-next-μ-loop
 place-next-add-k t c = omega arith
@@ -137,18 +166,20 @@ place-next-loop-less t c = omega arith
 
 place-next-loop-again : (t : ℕ) → place-next-lts.Need-loop-again (place-next-calls t) (place-next-at t) place-next.Post place-next-Inv-loop place-next-μ-loop
 place-next-loop-again t c =
-    let d = c .before .before .before in
+    let d = c .before .before .before .before .before .before in
     let l = d .before .before .before in
-    let next = one-fails stored _ _ _ _ _ _ _ _ _ (omega arith) (l .loop .inv .1) (l .loop .inv .2) (d .try-candidate .ensures) (c .if3 .left) in
+    let next =
+    one-fails stored _ _ _ _ _ _ _ _ _ (omega arith) (l .loop .inv .1) (l .loop .inv .2) (d .try-candidate .ensures .0)
+    (ne-eqb _ 1 (c .before .before .before .if3 .left)) in
     (omega arith, next .0, next .1)
 
-place-next-same-length-3 : (t : ℕ) → place-next-lts.Need-same-length-3 (place-next-calls t) (place-next-at t) place-next.Post place-next-Inv-loop place-next-μ-loop
-place-next-same-length-3 t c =
+place-next-same-length-4 : (t : ℕ) → place-next-lts.Need-same-length-4 (place-next-calls t) (place-next-at t) place-next.Post place-next-Inv-loop place-next-μ-loop
+place-next-same-length-4 t c =
     let l = c .before in
-    rw (l .loop .inv .1) refl
+    ap length (l .loop .inv .1)
 
-place-next-returns-4 : (t : ℕ) → place-next-lts.Need-returns-4 (place-next-calls t) (place-next-at t) place-next.Post place-next-Inv-loop place-next-μ-loop
-place-next-returns-4 t c =
+place-next-returns-5 : (t : ℕ) → place-next-lts.Need-returns-5 (place-next-calls t) (place-next-at t) place-next.Post place-next-Inv-loop place-next-μ-loop
+place-next-returns-5 t c =
     let l = c .before in
     rw (l .loop .inv .1) (not-found _ _ (l .loop .inv .2 ∙ tried-none stored _ _ _ _ _ _ _ (omega arith)))
 
@@ -161,7 +192,7 @@ try-candidate-same-length : (t : ℕ) → try-candidate-lts.Need-same-length (tr
 try-candidate-same-length t c = refl
 
 try-candidate-returns : (t : ℕ) → try-candidate-lts.Need-returns (try-candidate-calls t) (try-candidate-at t) try-candidate.Post
-try-candidate-returns t c = not-met _ _ _ _ _ _ _ (sym (c .before .meets .ensures) ∙ not-true _ (c .if1 .taken))
+try-candidate-returns t c = (not-met _ _ _ _ _ _ _ (sym (c .before .meets .ensures) ∙ not-true _ (c .if1 .taken)), λ e. absurd (omega arith))
 
 try-candidate-add-send : (t : ℕ) → try-candidate-lts.Need-add-send (try-candidate-calls t) (try-candidate-at t) try-candidate.Post
 try-candidate-add-send t c = omega arith
@@ -194,10 +225,12 @@ try-candidate-returns-2 t c =
     let n = c .before .before .before in
     let s = n .before .before .before .before in
     let m = s .before .before .before in
-    let pre = m .before .before .before .before .before .pre .1 in
-    serves _ _ _ _ _ _ _ (pre .0) (in-rest stored _ _ _ (pre .1) .0)
-    (sym (m .meets .ensures) ∙ not-false _ (s .before .before .if1 .left))
-    _ _ _ (s .send .ensures .0) (n .place-next .ensures) (c .if2 .taken)
+    let pre = m .before .before .before .before .before .pre .1 in (
+      serves _ _ _ _ _ _ _ (pre .0) (in-rest stored _ _ _ (pre .1) .0)
+          (sym (m .meets .ensures) ∙ not-false _ (s .before .before .if1 .left))
+          _ _ _ (s .send .ensures .0) (n .place-next .ensures) (c .if2 .taken),
+      λ e. absurd (omega arith),
+    )
 
 try-candidate-add-take-back : (t : ℕ) → try-candidate-lts.Need-add-take-back (try-candidate-calls t) (try-candidate-at t) try-candidate.Post
 try-candidate-add-take-back t c = omega arith
@@ -223,10 +256,12 @@ try-candidate-returns-3 t c =
     let s = n .before .before .before .before in
     let m = s .before .before .before in
     let pre = m .before .before .before .before .before .pre .1 in
-    taken-back _ _ _ _ _ _ _ (pre .0) (in-rest stored _ _ _ (pre .1) .0)
-    (sym (m .meets .ensures) ∙ not-false _ (s .before .before .if1 .left))
-    _ _ _ (s .send .ensures .0) (n .place-next .ensures)
-    _ _ (b .before .before .if2 .left) (s .send .ensures .1) (b .take-back .ensures)
+    let met = sym (m .meets .ensures) ∙ not-false _ (s .before .before .if1 .left) in (
+      taken-back _ _ _ _ _ _ _ (pre .0) (in-rest stored _ _ _ (pre .1) .0) met
+          _ _ _ (s .send .ensures .0) (n .place-next .ensures)
+          _ _ (b .before .before .if2 .left) (s .send .ensures .1) (b .take-back .ensures),
+      λ e. met,
+    )
 
 pub +place-next+try-candidate-spec : {M : Type 1} → statement M
 +place-next+try-candidate-spec = close μ-place-next μ-try-candidate (λ t. place-next-lts.spec (place-next-calls t)
@@ -243,12 +278,16 @@ pub +place-next+try-candidate-spec : {M : Type 1} → statement M
     (place-next-try-candidate-requires t)
     (place-next-same-length-2 t)
     (place-next-returns-3 t)
+    (place-next-sub-gives-up t)
+    (place-next-gives-up-requires t)
+    (place-next-same-length-3 t)
+    (place-next-returns-4 t)
     (place-next-add-k t)
     (place-next-sub-more t)
     (place-next-loop-less t)
     (place-next-loop-again t)
-    (place-next-same-length-3 t)
-    (place-next-returns-4 t))
+    (place-next-same-length-4 t)
+    (place-next-returns-5 t))
     λ t. try-candidate-lts.spec (try-candidate-calls t)
     (try-candidate-at t)
     try-candidate.Post

@@ -42,7 +42,7 @@ same-length c = c .before .before .try-candidate .kept .1 .1 .0
 
 returns : tie.Need-returns
 unfolding questionOf
-returns c = searched-as _ _ _ _ _ (on-candidate stored _ _ _ _ (omega arith)) (c .before .before .try-candidate .ensures)
+returns c = searched-as _ _ _ _ _ (on-candidate stored _ _ _ _ (omega arith)) (c .before .before .try-candidate .ensures .0)
 
 pub covers-on-spec : {M : Type 1} → statement M
 covers-on-spec =
