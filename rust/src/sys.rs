@@ -44,36 +44,27 @@ pub fn run(book: &[u8], out: &mut [u8]) -> (u8, usize) {
     (number, place)
 }
 
-/// What covering gives, and as much of the map as there is room for.
-pub fn covers(first: &[u8], second: &[u8], map: &mut [u8]) -> u8 {
-    let (bytes, room) = (map.as_mut_ptr(), map.len());
+/// A function of two records that gives a number and a map.
+type OfTwo = unsafe extern "C" fn(*const u8, usize, *const u8, usize, *mut u8, usize) -> u8;
+
+/// Its number, and as much of the map as there is room for.
+fn ask(function: OfTwo, first: &[u8], second: &[u8], map: &mut [u8]) -> u8 {
+    let (one, two) = (
+        (first.as_ptr(), first.len()),
+        (second.as_ptr(), second.len()),
+    );
     // SAFETY: as said above.
-    unsafe {
-        rauntiko_covers(
-            first.as_ptr(),
-            first.len(),
-            second.as_ptr(),
-            second.len(),
-            bytes,
-            room,
-        )
-    }
+    unsafe { function(one.0, one.1, two.0, two.1, map.as_mut_ptr(), map.len()) }
 }
 
-/// Which of the two is kept, and as much of the map as there is room for.
+/// What covering gives, and the map.
+pub fn covers(first: &[u8], second: &[u8], map: &mut [u8]) -> u8 {
+    ask(rauntiko_covers, first, second, map)
+}
+
+/// Which of the two is kept, and the map.
 pub fn kept(first: &[u8], second: &[u8], map: &mut [u8]) -> u8 {
-    let (bytes, room) = (map.as_mut_ptr(), map.len());
-    // SAFETY: as said above.
-    unsafe {
-        rauntiko_kept(
-            first.as_ptr(),
-            first.len(),
-            second.as_ptr(),
-            second.len(),
-            bytes,
-            room,
-        )
-    }
+    ask(rauntiko_kept, first, second, map)
 }
 
 #[cfg(test)]

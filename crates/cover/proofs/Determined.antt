@@ -5,6 +5,8 @@ use denote.Ref.{now, ptr}
 use Rattle.cover.proofs.desk.covers.Reads as covers-reads
 use Rattle.cover.proofs.desk.kept.Reads as kept-reads
 use Rattle.cover.proofs.desk.keep.Reads as keep-reads
+use mathlib.Core.Bool.{false}
+use Rattle.cover.specs.HeldMap.{said}
 use Rattle.cover.proofs.Maps.{said-yes}
 use Rattle.cover.proofs.search.covers_sound.Reads as covers-sound-reads
 use Rattle.cover.proofs.search.covers_on.Reads as covers-on-reads
@@ -27,7 +29,10 @@ pub covers-sound-determined : (κs : _) (a : _) (r s : _) (x y : _) → covers-s
     → covers-sound-reads.Learnt κs a s y → r ≡ s
 covers-sound-determined κs a r s x y p q = p ∙ sym q
 
--- whether there is a map, and then where it sends each variable
+-- whether there is a map; where there is one, where it sends each variable, and else the map's bytes
 pub covers-on-determined : (κs : _) (a : _) (r s : _) (x y : _) → covers-on-reads.Learnt κs a r x
-    → covers-on-reads.Learnt κs a s y → r ≡ s
-covers-on-determined κs a r s x y p q = said-yes r _ _ (p .finds) ∙ sym (said-yes s _ _ (q .finds))
+    → covers-on-reads.Learnt κs a s y
+    → (r ≡ s) × (said r (now (x .1 .1 .0)) ≡ said s (now (y .1 .1 .0))) × (r ≡ false → now (x .1 .1 .0) ≡ now (y .1 .1 .0))
+covers-on-determined κs a r s x y p q =
+    let same = said-yes r _ _ (p .finds) ∙ sym (said-yes s _ _ (q .finds)) in
+    (same, p .finds ∙ sym (q .finds), λ e. p .back e ∙ sym (q .back (sym same ∙ e)))

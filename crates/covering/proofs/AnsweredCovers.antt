@@ -8,18 +8,20 @@ use native.Mathlib.Omega.{arith}
 use borrow.Author.Tests.{eq-eqb, ne-eqb}
 use lib.Dec.{T, eqb, eqb→eq, eqb-refl}
 use lib.ListN.{length, length-map}
-use Rattle.covering.specs.Lists.{_∈_}
+use Rattle.covering.specs.Lists.{_∈_, isSome}
 use Rattle.covering.specs.Term.{Term, Atom, Question, on-term, on-atom}
 use Rattle.covering.specs.Asking.{Asking, answerAtom, withAnswer, joined, records, NoRecord}
 use Rattle.covering.specs.Covers.{Covers, CoversAsking}
 use Rattle.covering.specs.Desk.{coversAsking, coveringMap}
-use Rattle.covering.proofs.Tests.{either, both, fst-of, snd-of, true→T, false→no}
+use Rattle.covering.proofs.Tests.{either, both, fst-of, snd-of, true→T, false→no, none≢some}
 use Rattle.covering.proofs.Lists.{none-of}
 use Rattle.covering.proofs.Terms.{atom-path}
 use Rattle.covering.proofs.Decides.{covers-decides}
-use mathlib.Core.Bool.{Bool, true, false, cond}
-use mathlib.Core.Option.{none}
-use Rattle.covering.specs.Search.{firstMap, covers}
+use mathlib.Core.Bool.{Bool, true, false, cond, _&&_}
+use mathlib.Core.Option.{none, some}
+use Rattle.covering.specs.Search.{Part, firstMap, covers}
+use Rattle.covering.specs.FirstMap.{FirstMap}
+use Rattle.covering.proofs.FirstMap.{first-is}
 
 -- as conjunctions, for answers of as many terms
 to-joined : (ts us : List Term) (A C : Question) → CoversAsking (record { answer = ts; atoms = A }) (record { answer = us; atoms = C })
@@ -56,16 +58,36 @@ from-joined (t ∷ ts) (u ∷ us) A C f g l c =
     later a m (inl e) = absurd (f a m (ap (λ (b : Atom). b .rel) e))
     later a m (inr k) = k
 
+-- as many terms to answer with, and the conjunctions cover
+by-parts : (p q : Asking)
+    → coversAsking p q ≡ (eqb (length (p .answer)) (length (q .answer)) && covers (joined p) (joined q))
+unfolding covers
+by-parts p q = go (eqb (length (p .answer)) (length (q .answer)))
+  where
+    go : (b : Bool) → isSome (cond b (firstMap (joined p) (joined q)) none) ≡ (b && isSome (firstMap (joined p) (joined q)))
+    go true = refl
+    go false = refl
+
+-- the map that covering gives is the first of the conjunctions, the answer record as the first atom
+pub covering-first : (p q : Asking) (m : Part) → coveringMap p q ≡ some m → FirstMap (joined p) (joined q) m
+covering-first p q m e = go (eqb (length (p .answer)) (length (q .answer))) e
+  where
+    go : (b : Bool) → cond b (firstMap (joined p) (joined q)) none ≡ some m → FirstMap (joined p) (joined q) m
+    go true f = first-is (joined p) (joined q) m f
+    go false f = absurd (none≢some f)
+
 pub asking-decides : (p q : Asking) → NoRecord (p .atoms) → NoRecord (q .atoms) → T (coversAsking p q) ↔ CoversAsking p q
 asking-decides p q f g = (
-  (λ t.
+  (λ u.
+      let t = subst T (by-parts p q) u in
       from-joined (p .answer) (q .answer) (p .atoms) (q .atoms) f g
       (eqb→eq (length (p .answer)) (length (q .answer)) (fst-of (eqb (length (p .answer)) (length (q .answer))) _ t))
       (covers-decides (joined p) (joined q) .0 (snd-of (eqb (length (p .answer)) (length (q .answer))) _ t))),
   (λ c.
-      both (eqb (length (p .answer)) (length (q .answer))) _
+      subst T (sym (by-parts p q))
+      (both (eqb (length (p .answer)) (length (q .answer))) _
       (subst (λ (n : ℕ). T (eqb (length (p .answer)) n)) (as-many c) (eqb-refl (length (p .answer))))
-      (covers-decides (joined p) (joined q) .1 (to-joined (p .answer) (q .answer) (p .atoms) (q .atoms) c))),
+      (covers-decides (joined p) (joined q) .1 (to-joined (p .answer) (q .answer) (p .atoms) (q .atoms) c)))),
 )
   where
     as-many : CoversAsking p q → length (p .answer) ≡ length (q .answer)

@@ -1,20 +1,17 @@
 -- Laws of the desk's answers: one for each way through the code, and that each answer is determined. Assumes nothing.
 use mathlib.Core.Path.{_≡_, refl}
-use mathlib.Core.Bool.{Bool, true, false, cond, _&&_}
+use mathlib.Core.Bool.{true, false, cond}
 use mathlib.Core.Logic.{_⊎_, inl, inr}
 use mathlib.Core.List.{List}
 use mathlib.Core.Option.{Option, none, some}
 use Prim.Native.Nat.{ℕ}
 use native.Mathlib.Omega.{arith}
-use lib.Dec.{eqb}
-use lib.ListN.{length, replicate}
-use Rattle.covering.specs.Asking.{Asking, joined}
+use lib.ListN.{replicate}
+use Rattle.covering.specs.Asking.{Asking}
 use Rattle.covering.specs.Record.{Layout, askingOf, isRecord, recordOf}
 use Rattle.covering.specs.Desk.{coversAnswer, coversAsking, the-first, the-second, neither, which, coversNumber}
 use Rattle.covering.specs.Desk.{Chosen, chosenNumber, keptAnswer, coveringMap, coversMap, keptMap}
 use Rattle.covering.specs.FirstMap.{mapOr}
-use Rattle.covering.specs.Lists.{isSome}
-use Rattle.covering.specs.Search.{firstMap, covers}
 use Rattle.covering.proofs.Tests.{either}
 
 module _ (L : Layout) (B : List ℕ) where
@@ -87,15 +84,6 @@ module _ (L : Layout) (A B : List ℕ) where
       → which (recordOf L A) (recordOf L B) ≡ neither
   unfolding coversAnswer
   keeps-neither n m = none-kept (recordOf L A) (recordOf L B) n m
-
--- the map is there where the answer is yes
-pub yes-map : (p q : Asking) → isSome (coveringMap p q) ≡ coversAsking p q
-unfolding covers
-yes-map p q = go (eqb (length (p .answer)) (length (q .answer)))
-  where
-    go : (b : Bool) → isSome (cond b (firstMap (joined p) (joined q)) none) ≡ b && isSome (firstMap (joined p) (joined q))
-    go true = refl
-    go false = refl
 
 module _ (L : Layout) (A B : List ℕ) where
   pub map-2 : isRecord L A ≡ false → coversMap L A B ≡ replicate (L .variables) 255

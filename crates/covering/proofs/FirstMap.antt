@@ -13,7 +13,7 @@ use Rattle.covering.specs.Lists.{_∈_, isSome, orElse, bind, firstOf}
 use Rattle.covering.specs.Term.{Term, var, con, Atom, Question, Sub, on-atom, terms, eqTerm}
 use Rattle.covering.specs.Covers.{Sends}
 use Rattle.covering.specs.Search.{Part, nowhere, also, agree, placeTerm, placeTerms, placeAtom, findMap, firstMap}
-use Rattle.covering.specs.FirstMap.{nth, Meets, NotAfter, FirstMap}
+use Rattle.covering.specs.FirstMap.{nth, Allows, NotAfter, FirstMap}
 use Rattle.covering.proofs.Tests.{decide, cond-yes, cond-no, none≢some, le-or-lt}
 use Rattle.covering.proofs.Terms.{eq→eqTerm}
 use Rattle.covering.proofs.Decides.{Respects, atom-tells, atom-yields, search-complete, total, total-respects}
@@ -145,11 +145,11 @@ nth-in [] n b e = absurd (none≢some e)
 nth-in (c ∷ B) zero b e = List·Memᴰ·head (sym (Option·some-injective c b e))
 nth-in (c ∷ B) (suc n) b e = List·Memᴰ·tail (nth-in B n b e)
 
-pub meets-sends : (s : Sub) (A B : Question) (c : List ℕ) → Meets s A B c → Sends s A B
-meets-sends s [] B [] m a i = absurd (List·Memᴰ·not-nil i)
-meets-sends s [] B (n ∷ c) m a i = absurd m
-meets-sends s (b ∷ A) B [] m a i = absurd m
-meets-sends s (b ∷ A) B (n ∷ c) m a i = go (meets-sends s A B c (m .1)) (List·Memᴰ·cases-cons i)
+pub allows-sends : (s : Sub) (A B : Question) (c : List ℕ) → Allows s A B c → Sends s A B
+allows-sends s [] B [] m a i = absurd (List·Memᴰ·not-nil i)
+allows-sends s [] B (n ∷ c) m a i = absurd m
+allows-sends s (b ∷ A) B [] m a i = absurd m
+allows-sends s (b ∷ A) B (n ∷ c) m a i = go (allows-sends s A B c (m .1)) (List·Memᴰ·cases-cons i)
   where
     go : Sends s A B → (a ≡ b) ⊎ (a ∈ A) → on-atom s a ∈ B
     go rest (inl e) = Memᴰ·cast (ap (on-atom s) e) (nth-in B n (on-atom s b) (m .0))
@@ -158,8 +158,8 @@ meets-sends s (b ∷ A) B (n ∷ c) m a i = go (meets-sends s A B c (m .1)) (Lis
 -- what the search finds from p on: the first sequence that a map which does what p says allows
 record Least (A B : Question) (p q : Part) : Type 0 where
   candidates : List ℕ
-  sent : (s : Sub) → Respects s q → Respects s p × Meets s A B candidates
-  first : (d : List ℕ) (s : Sub) → Respects s p → Meets s A B d → NotAfter candidates d
+  sent : (s : Sub) → Respects s q → Respects s p × Allows s A B candidates
+  first : (d : List ℕ) (s : Sub) → Respects s p → Allows s A B d → NotAfter candidates d
   grows : Grows p q (terms A)
 
 search-least : (A B : Question) (p q : Part) → findMap A B p ≡ some q → Least A B p q
@@ -199,13 +199,13 @@ search-least (a ∷ A) B p q e = go (first-at f B q e) (λ r. search-least A B r
             l : Least A B r q
             l = below r g
 
-            sends : (s : Sub) → Respects s q → Respects s p × Meets s (a ∷ A) B (x .place ∷ l .candidates)
+            sends : (s : Sub) → Respects s q → Respects s p × Allows s (a ∷ A) B (x .place ∷ l .candidates)
             sends s k =
                 let two = l .sent s k in
                 let one = atom-tells p a (x .atom) r h s (two .0) in
                 (one .0, (x .stands ∙ ap some (sym (one .1)), two .1))
 
-            order : (d : List ℕ) (s : Sub) → Respects s p → Meets s (a ∷ A) B d → NotAfter (x .place ∷ l .candidates) d
+            order : (d : List ℕ) (s : Sub) → Respects s p → Allows s (a ∷ A) B d → NotAfter (x .place ∷ l .candidates) d
             order [] s k m = absurd m
             order (n ∷ d) s k m = compare (le-or-lt (x .place) n)
               where
@@ -225,7 +225,7 @@ search-least (a ∷ A) B p q e = go (first-at f B q e) (λ r. search-least A B r
                         → (x .place < n) ⊎ ((x .place ≡ n) × NotAfter (l .candidates) d)
                     meet (inl ge) = same (omega arith)
                     meet (inr lt) = inl lt
-                compare (inr lt) = absurd (earlier x n s k (m .0) (meets-sends s A B d (m .1)) lt)
+                compare (inr lt) = absurd (earlier x n s k (m .0) (allows-sends s A B d (m .1)) lt)
 
 -- the search's map is the first
 pub first-is : (A B : Question) (p : Part) → firstMap A B ≡ some p → FirstMap A B p
@@ -234,7 +234,7 @@ first-is A B p e =
     record {
       candidates = l .candidates;
       by = total p;
-      meets = l .sent (total p) (total-respects p) .1;
+      allows = l .sent (total p) (total-respects p) .1;
       first = λ d s m. l .first d s (λ n t f. absurd (none≢some f)) m;
       there = λ n i. let x = l .grows .there n i in x .1 ∙ ap some (sym (total-respects p n (x .0) (x .1)));
       nowhere-else = λ n f. l .grows .other n f;

@@ -11,13 +11,13 @@ use lib.Dec.{T}
 use Rattle.covering.specs.Lists.{_∈_, any}
 use Rattle.covering.specs.Term.{Term, var, Atom, Question, Sub, on-term, terms, eqTerm}
 use Rattle.covering.specs.Search.{Part}
-use Rattle.covering.specs.FirstMap.{Meets, NotAfter, FirstMap}
+use Rattle.covering.specs.FirstMap.{Allows, NotAfter, FirstMap}
 use Rattle.covering.proofs.Lists.{any-in, any-out}
 use Rattle.covering.proofs.Tests.{decide, clash}
 use Rattle.covering.proofs.Terms.{eqTerm→eq, eq→eqTerm}
 
 -- neither of two sequences is after the other
-same-candidates : (A B : Question) (c d : List ℕ) (s r : Sub) → Meets s A B c → Meets r A B d → NotAfter c d
+same-candidates : (A B : Question) (c d : List ℕ) (s r : Sub) → Allows s A B c → Allows r A B d → NotAfter c d
     → NotAfter d c → c ≡ d
 same-candidates [] B [] [] s r m k x y = refl
 same-candidates [] B [] (n ∷ d) s r m k x y = absurd k
@@ -42,7 +42,7 @@ same-terms s r (t ∷ ts) n e m = go (List·Memᴰ·cases-cons m) (same-terms s 
     go (inl i) below = ap (on-term s) i ∙ head-eq-of-cons-eq e ∙ ap (on-term r) (sym i)
     go (inr i) below = below i
 
-same-there : (A B : Question) (c : List ℕ) (s r : Sub) (n : ℕ) → Meets s A B c → Meets r A B c → var n ∈ terms A
+same-there : (A B : Question) (c : List ℕ) (s r : Sub) (n : ℕ) → Allows s A B c → Allows r A B c → var n ∈ terms A
     → s n ≡ r n
 same-there [] B c s r n m k i = absurd (List·Memᴰ·not-nil i)
 same-there (a ∷ A) B [] s r n m k i = absurd m
@@ -59,19 +59,19 @@ first-only A B p q f g = fun-ext (λ n. go n (decide (any (eqTerm (var n)) (term
   where
     same : f .candidates ≡ g .candidates
     same =
-        same-candidates A B (f .candidates) (g .candidates) (f .by) (g .by) (f .meets) (g .meets)
-        (f .first (g .candidates) (g .by) (g .meets))
-        (g .first (f .candidates) (f .by) (f .meets))
+        same-candidates A B (f .candidates) (g .candidates) (f .by) (g .by) (f .allows) (g .allows)
+        (f .first (g .candidates) (g .by) (g .allows))
+        (g .first (f .candidates) (f .by) (f .allows))
 
-    by-one : Meets (f .by) A B (g .candidates)
-    by-one = subst (Meets (f .by) A B) same (f .meets)
+    by-one : Allows (f .by) A B (g .candidates)
+    by-one = subst (Allows (f .by) A B) same (f .allows)
 
     go : (n : ℕ) → T (any (eqTerm (var n)) (terms A)) ⊎ T (not (any (eqTerm (var n)) (terms A))) → p n ≡ q n
     go n (inl x) =
         let t = any-out (eqTerm (var n)) (terms A) x in
         let i : var n ∈ terms A = Memᴰ·cast (eqTerm→eq (var n) (t .0) (t .2)) (t .1) in
         f .there n i
-        ∙ ap some (same-there A B (g .candidates) (f .by) (g .by) n by-one (g .meets) i)
+        ∙ ap some (same-there A B (g .candidates) (f .by) (g .by) n by-one (g .allows) i)
         ∙ sym (g .there n i)
     go n (inr x) =
         let out : var n ∈ terms A → ⊥

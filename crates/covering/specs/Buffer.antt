@@ -5,11 +5,11 @@ use Prim.Native.Nat.{ℕ, _+_, _*_, _-_, _≤_}
 use lib.Dec.{T}
 use lib.ListN.{length, getD, replicate}
 use Rattle.covering.specs.Term.{Question}
-use Rattle.covering.specs.Record.{Layout, size, isAtom, areAtoms, questionOf, recordBytes, width}
+use Rattle.covering.specs.Record.{Layout, size, isAtom, areAtoms, questionOf, recordBytes, width, stored}
 
--- the bytes in which the code holds a record: the layout with records fills them
+-- the bytes in which the code holds a record, which the most atoms fill: 61
 abbrev pub recordRoom : ℕ
-recordRoom = 61
+recordRoom = width stored (stored .atoms)
 
 -- n sound atoms from i on, within the bytes
 pub record AtomsIn (L : Layout) (B : List ℕ) (i n : ℕ) : Type 0 where

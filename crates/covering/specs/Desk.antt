@@ -1,21 +1,26 @@
 -- The search desk's operations (01, "The search desk's covering").
 use mathlib.Core.Path.{_≡_}
-use mathlib.Core.Bool.{Bool, cond, _&&_}
+use mathlib.Core.Bool.{Bool, cond}
 use mathlib.Core.List.{List, []}
 use mathlib.Core.Option.{Option, none, some}
 use Prim.Native.Nat.{ℕ}
 use lib.Dec.{eqb}
 use lib.ListN.{length}
 use denote.Ref.{RefT, now, ptr}
+use Rattle.covering.specs.Lists.{isSome}
 use Rattle.covering.specs.Asking.{Asking, joined}
-use Rattle.covering.specs.Search.{Part, firstMap, covers}
+use Rattle.covering.specs.Search.{Part, firstMap}
 use Rattle.covering.specs.Record.{Layout, recordOf}
 use Rattle.covering.specs.FirstMap.{mapOr}
 
--- Whether one covers the other (`CoversAsking`, `proofs/AnsweredCovers`). Conjunctions do not tell that "only one does",
--- have answer places: p(v0) covers a(c0) p(c0) as they do; so this is a test of its own.
+-- "Covering is to give the map it found" (02, f): the first of all, or none. Conjunctions do not tell that "only one
+-- does", have answer places: p(v0) covers a(c0) p(c0) as they do; so this is a test of its own.
+abbrev pub coveringMap : Asking → Asking → Option Part
+coveringMap p q = cond (eqb (length (p .answer)) (length (q .answer))) (firstMap (joined p) (joined q)) none
+
+-- whether one covers the other (`CoversAsking`, `proofs/AnsweredCovers`)
 abbrev pub coversAsking : Asking → Asking → Bool
-coversAsking p q = eqb (length (p .answer)) (length (q .answer)) && covers (joined p) (joined q)
+coversAsking p q = isSome (coveringMap p q)
 
 -- "0 no, 1 yes, 2 first malformed, 3 second malformed; 2 wins"
 abbrev pub coversNumber : Option Asking → Option Asking → ℕ
@@ -27,16 +32,12 @@ coversNumber (some p) (some q) = cond (coversAsking p q) 1 0
 unfoldable pub coversAnswer : Layout → List ℕ → List ℕ → ℕ
 coversAnswer L first second = coversNumber (recordOf L first) (recordOf L second)
 
--- "Covering is to give the map it found" (02, f): the first, and none where the answer is not yes
-abbrev pub coveringMap : Asking → Asking → Option Part
-coveringMap p q = cond (eqb (length (p .answer)) (length (q .answer))) (firstMap (joined p) (joined q)) none
-
 abbrev pub foundMap : Option Asking → Option Asking → Option Part
 foundMap none b = none
 foundMap (some p) none = none
 foundMap (some p) (some q) = coveringMap p q
 
--- a byte for each variable of the first record
+-- and the map, a byte for each variable of the first record; 255 for all where the answer is not yes
 unfoldable pub coversMap : Layout → List ℕ → List ℕ → List ℕ
 coversMap L first second = mapOr (L .variables) (foundMap (recordOf L first) (recordOf L second))
 
@@ -53,7 +54,7 @@ which none b = neither
 which (some p) none = neither
 which (some p) (some q) = cond (coversAsking p q) the-first (cond (coversAsking q p) the-second neither)
 
--- the same in numbers, for whom no part can be handed back to: 0 neither, 1 the first, 2 the second
+-- the same as a number, where no part can be handed back: 0 neither, 1 the first, 2 the second
 abbrev pub chosenNumber : Chosen → ℕ
 chosenNumber neither = 0
 chosenNumber the-first = 1

@@ -1,5 +1,6 @@
 -- The map that covering gives (02, f): "Among all maps give the first when atoms are taken in order and candidates in
--- order." That the search's map is this one, and that there is no other, is proved in `proofs/FirstMap`.
+-- order." That the search's map is this one is proved in `proofs/FirstMap`, and that there is no other in
+-- `proofs/OneFirst`.
 use mathlib.Core.Path.{_≡_}
 use mathlib.Core.Logic.{_⊎_}
 use mathlib.Core.List.{List, [], _∷_, map}
@@ -17,12 +18,13 @@ nth [] n = none
 nth (b ∷ B) zero = some b
 nth (b ∷ B) (suc n) = nth B n
 
--- a sequence of candidates, one for each atom of A in its order, each by its place in B: s sends each atom to its own
-abbrev pub Meets : Sub → Question → Question → List ℕ → Type 0
-Meets s [] B [] = Unit {0}
-Meets s [] B (n ∷ c) = ⊥
-Meets s (a ∷ A) B [] = ⊥
-Meets s (a ∷ A) B (n ∷ c) = (nth B n ≡ some (on-atom s a)) × Meets s A B c
+-- s allows a sequence of candidates, one for each atom of A in its order, each by its place in B: it sends each atom to
+-- its own
+abbrev pub Allows : Sub → Question → Question → List ℕ → Type 0
+Allows s [] B [] = Unit {0}
+Allows s [] B (n ∷ c) = ⊥
+Allows s (a ∷ A) B [] = ⊥
+Allows s (a ∷ A) B (n ∷ c) = (nth B n ≡ some (on-atom s a)) × Allows s A B c
 
 -- c is not after d: the first atom's candidate is the most significant
 abbrev pub NotAfter : List ℕ → List ℕ → Type 0
@@ -34,8 +36,8 @@ NotAfter (n ∷ c) (m ∷ d) = (n < m) ⊎ ((n ≡ m) × NotAfter c d)
 pub record FirstMap (A B : Question) (p : Part) : Type 0 where
   pub candidates : List ℕ
   pub by : Sub
-  pub meets : Meets by A B candidates
-  pub first : (d : List ℕ) (s : Sub) → Meets s A B d → NotAfter candidates d
+  pub allows : Allows by A B candidates
+  pub first : (d : List ℕ) (s : Sub) → Allows s A B d → NotAfter candidates d
   pub there : (n : ℕ) → var n ∈ terms A → p n ≡ some (by n)
   pub nowhere-else : (n : ℕ) → (var n ∈ terms A → ⊥) → p n ≡ none
 

@@ -8,7 +8,7 @@ use Prim.Native.Nat.{ℕ}
 use borrow.Author.Tests.{not-true, not-false}
 use Rattle.covering.specs.Record.{desk, askingOf, isRecord}
 use Rattle.covering.proofs.Tests.{true→T}
-use Rattle.covering.proofs.Answers.{answer-2, answer-3, answer-covers, map-2, map-3, map-covers, yes-map}
+use Rattle.covering.proofs.Answers.{answer-2, answer-3, answer-covers, map-2, map-3, map-covers}
 use Rattle.cover.proofs.Maps.{said-yes, searched-map}
 use Rattle.cover.proofs.desk.covers.Statement.{statement}
 use Rattle.cover.proofs.desk.covers.Tie as tie
@@ -56,8 +56,7 @@ returns-3 c =
     let a = b .before .before .before .before .before .before .args in
     let told =
     ap as-number
-    (sym (yes-map (askingOf desk (a .first .now)) (askingOf desk (a .second .now)))
-    ∙ sym (said-yes _ _ _ (r .covers-record .ensures .finds))
+    (sym (said-yes _ _ _ (r .covers-record .ensures .finds))
     ∙ c .if3 .taken) in (
       omega (arith, answer, told),
       searched-map _ _ _ (r .covers-record .kept .1 .1 .0) (r .covers-record .ensures)
@@ -72,8 +71,7 @@ returns-4 c =
     let a = b .before .before .before .before .before .before .args in
     let told =
     ap as-number
-    (sym (yes-map (askingOf desk (a .first .now)) (askingOf desk (a .second .now)))
-    ∙ sym (said-yes _ _ _ (r .covers-record .ensures .finds))
+    (sym (said-yes _ _ _ (r .covers-record .ensures .finds))
     ∙ c .if3 .left) in (
       omega (arith, answer, told),
       searched-map _ _ _ (r .covers-record .kept .1 .1 .0) (r .covers-record .ensures)
