@@ -1,5 +1,6 @@
-/* How much stack covering takes: two records of eleven atoms are compared in a thread whose stack was painted before.
- * Fails above 4 KB. Compile with -pthread and link the archive of the proved routines. */
+/* How much stack covering takes: two records of eleven atoms are compared in a thread whose stack was painted before,
+ * once with room for four places in an atom and once for six. Fails above 4 KB. Compile with -pthread and link the
+ * archive of the proved routines. */
 #define _POSIX_C_SOURCE 200809L
 #include "rauntiko.h"
 #include <pthread.h>
@@ -9,12 +10,14 @@
 
 enum { STACK = 1 << 18, PAINT = 0xA5, ATOMS = 11, MOST = 4096 };
 
-static uint8_t general[1 + 5 * ATOMS], special[1 + 5 * ATOMS];
+static uint8_t general[1 + 7 * ATOMS], special[1 + 7 * ATOMS];
+static size_t width;
 
 static void *nothing(void *unused) { return unused; }
 
 static void *compare(void *unused) {
-    uint8_t answer = rauntiko_covers(general, sizeof general, special, sizeof special, NULL, 0);
+    size_t length = 1 + (1 + width) * ATOMS;
+    uint8_t answer = rauntiko_covers(general, length, special, length, width, NULL, 0);
     return answer == 1 ? unused : NULL;
 }
 
@@ -34,15 +37,24 @@ static size_t touched(void *(*run)(void *)) {
     return STACK - free_bytes;
 }
 
-int main(void) {
+/* Records of atoms with room for so many places: r0(v0,v1), r0(v1,v2), .. to be placed on r0(c0,c1), r0(c1,c2), .. one
+ * by one. */
+static void fill(size_t places) {
+    width = places;
     general[0] = special[0] = ATOMS;
-    for (int i = 0; i < ATOMS; i++) { /* r0(v0,v1), r0(v1,v2), .. placed on r0(c0,c1), r0(c1,c2), .. one by one */
-        uint8_t from[5] = {0, (uint8_t)i, (uint8_t)(i + 1), 255, 255};
-        uint8_t to[5] = {0, (uint8_t)(128 + i), (uint8_t)(129 + i), 255, 255};
-        memcpy(general + 1 + 5 * i, from, 5);
-        memcpy(special + 1 + 5 * i, to, 5);
+    for (size_t i = 0; i < ATOMS; i++) {
+        uint8_t from[7] = {0, (uint8_t)i, (uint8_t)(i + 1), 255, 255, 255, 255};
+        uint8_t to[7] = {0, (uint8_t)(128 + i), (uint8_t)(129 + i), 255, 255, 255, 255};
+        memcpy(general + 1 + (1 + width) * i, from, 1 + width);
+        memcpy(special + 1 + (1 + width) * i, to, 1 + width);
     }
-    size_t bytes = touched(compare) - touched(nothing);
-    printf("comparing %d atoms with %d takes %zu bytes of stack\n", ATOMS, ATOMS, bytes);
-    return bytes > MOST;
+}
+
+int main(void) {
+    fill(4);
+    size_t four = touched(compare) - touched(nothing);
+    fill(6);
+    size_t six = touched(compare) - touched(nothing);
+    printf("comparing %d atoms with %d takes %zu bytes of stack, of six places %zu\n", ATOMS, ATOMS, four, six);
+    return four > MOST || six > MOST;
 }

@@ -1,7 +1,7 @@
 //! What the two sides answer, byte for byte.
 
 use crate::sides::{Side, ROOM, SIDES};
-use crate::task::{Task, Work};
+use crate::task::{Bytes, Task, Work};
 
 /// What the output holds before a run whose answer is compared: a byte that neither side would
 /// write everywhere, so that a byte written behind the union is seen.
@@ -10,7 +10,10 @@ const BEFORE: u8 = 0xa5;
 /// All that a side answers: number, place and every byte of the output; or a byte for each pair.
 pub fn answer(task: &Task, side: &Side) -> Vec<u8> {
     match &task.work {
-        Work::Covers(pairs) => pairs.iter().map(|(a, b)| (side.covers)(a, b)).collect(),
+        Work::Covers(width, pairs) => {
+            let covers = |(a, b): &(Bytes, Bytes)| (side.covers)(a, b, width.places());
+            pairs.iter().map(covers).collect()
+        }
         Work::Run(book) => {
             let mut out = [BEFORE; ROOM];
             let (number, place) = (side.run)(book, &mut out);

@@ -8,8 +8,8 @@ pub struct Side {
     pub name: &'static str,
     /// One book: the answer's number and place.
     pub run: fn(&[u8], &mut [u8]) -> (u8, usize),
-    /// Covering at the search desk.
-    pub covers: fn(&[u8], &[u8]) -> u8,
+    /// Covering at the search desk, of records of so many places.
+    pub covers: fn(&[u8], &[u8], usize) -> u8,
 }
 
 /// The proved program, called as a library.
@@ -19,7 +19,7 @@ pub const PROVED: Side = Side {
         let answer = rauntiko::raw::run(book, out);
         (answer.number, answer.place)
     },
-    covers: |first, second| rauntiko::raw::covers(first, second).number,
+    covers: |first, second, width| rauntiko::raw::covers(first, second, width).number,
 };
 
 /// The same exploration in plain Rust.
@@ -29,7 +29,7 @@ pub const PLAIN: Side = Side {
         let answer = plain::run(book, out);
         (answer.number, answer.place)
     },
-    covers: |first, second| plain::covers(first, second),
+    covers: plain::covers,
 };
 
 /// Both, the proved one first.

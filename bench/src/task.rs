@@ -1,5 +1,7 @@
 //! What is timed.
 
+use second::width::Width;
+
 /// One member's record or the bytes of one book.
 pub type Bytes = Vec<u8>;
 
@@ -7,8 +9,8 @@ pub type Bytes = Vec<u8>;
 pub enum Work {
     /// One book, from its bytes to the union's.
     Run(Bytes),
-    /// Covering at the search desk, for each of these pairs of records.
-    Covers(Vec<(Bytes, Bytes)>),
+    /// Covering at the search desk, for each of these pairs of records of one width.
+    Covers(Width, Vec<(Bytes, Bytes)>),
 }
 
 /// How long the proved program takes for it, which decides when it is measured.
@@ -38,7 +40,7 @@ impl Task {
     pub fn book(&self) -> Option<&[u8]> {
         match &self.work {
             Work::Run(book) => Some(book),
-            Work::Covers(_) => None,
+            Work::Covers(..) => None,
         }
     }
 }
@@ -50,6 +52,7 @@ pub type Wants<'w> = &'w dyn Fn(&str, Pace) -> bool;
 /// made, so that a profile shows nothing of it.
 pub fn wanted(wants: Wants) -> Vec<Task> {
     let books = crate::books::ordinary().into_iter();
+    let books = books.chain(crate::books::new_form());
     let books = books.chain(crate::books::worst());
     let hard = crate::pairs::hard();
     let made = |task: &Task| wants(&task.name, task.pace);

@@ -74,9 +74,10 @@ fn once(task: &Task, side: &Side, out: &mut [u8; ROOM]) {
             std::hint::black_box(&mut *out).fill(0);
             std::hint::black_box((side.run)(std::hint::black_box(book), out));
         }
-        Work::Covers(pairs) => {
+        Work::Covers(width, pairs) => {
             for (first, second) in pairs {
-                std::hint::black_box((side.covers)(std::hint::black_box(first), second));
+                let first = std::hint::black_box(first);
+                std::hint::black_box((side.covers)(first, second, width.places()));
             }
         }
     }

@@ -1,11 +1,12 @@
 //! The books are what their names say, and both sides answer them as the second program does.
 
-use bench::books::{ordinary, worst, SIZES};
+use bench::books::{new_form, ordinary, worst, SIZES};
 use bench::check::{agreed, answer, counts};
 use bench::sides::{PROVED, ROOM};
 use bench::task::{wanted, Pace, Task, Work};
 use second::book;
 use second::seen::Seen;
+use second::width::Width;
 use std::collections::BTreeSet;
 
 /// The book of a task, read by the second program.
@@ -19,7 +20,7 @@ fn read(task: &Task) -> book::Book {
 
 #[test]
 fn every_book_is_sound_and_has_its_rules() {
-    for task in ordinary().iter().chain(&worst()) {
+    for task in ordinary().iter().chain(&new_form()).chain(&worst()) {
         assert_eq!(read(task).rules.len(), task.rules, "{}", task.name);
     }
 }
@@ -70,6 +71,28 @@ fn ordinary_books_are_complete_and_of_their_kind() {
 }
 
 #[test]
+fn books_in_the_new_form_are_complete_and_of_their_kind() {
+    let books = new_form();
+    let kinds = ["new form", "loan lines"].map(|kind| {
+        let such = books.iter().filter(|task| task.kind == kind);
+        such.count()
+    });
+    assert!(kinds[0] >= 8 && kinds[1] == SIZES.len(), "{kinds:?}");
+    for task in books {
+        let book = read(&task);
+        assert_eq!(book.width, Width::Six, "{}", task.name);
+        let widest = book.relations.iter().max();
+        assert_eq!(
+            widest == Some(&6),
+            task.kind == "loan lines",
+            "{}",
+            task.name
+        );
+        assert!(complete(&task).0 >= 3, "{}", task.name);
+    }
+}
+
+#[test]
 fn the_longest_run_takes_up_a_thousand() {
     let tasks = worst();
     let long = tasks.iter().find(|task| task.name == "explorations-1000");
@@ -79,9 +102,9 @@ fn the_longest_run_takes_up_a_thousand() {
 /// What the second program answers, in the form in which the sides' answers are compared.
 fn second_answer(task: &Task) -> Vec<u8> {
     match &task.work {
-        Work::Covers(pairs) => pairs
+        Work::Covers(width, pairs) => pairs
             .iter()
-            .map(|(a, b)| second::desk::covers(a, b).number)
+            .map(|(a, b)| second::desk::covers(a, b, width.places()).number)
             .collect(),
         Work::Run(book) => {
             let mut out = [0xa5; ROOM];

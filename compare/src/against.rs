@@ -32,7 +32,12 @@ impl Against {
 
     /// What the program says about the books, all in one start.
     pub fn say(&self, books: &[Vec<u8>]) -> Said {
-        match self.output(frames(books)) {
+        self.say_of(frames(books))
+    }
+
+    /// What the program says about this input, in one start.
+    pub fn say_of(&self, input: Vec<u8>) -> Said {
+        match self.output(input) {
             Err(what) => Said {
                 answers: Vec::new(),
                 trouble: Some(what),

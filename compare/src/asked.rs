@@ -12,6 +12,9 @@ const NUMBERS: &[&str] = &["--seconds", "--count", "--seed", "--threads"];
 pub struct Asked {
     pub against: Option<Against>,
     pub program: Option<Against>,
+    /// The programs that copy into the new form and into the old one.
+    pub to_new: Option<Against>,
+    pub to_old: Option<Against>,
     pub books: PathBuf,
     pub seconds: u64,
     pub count: Option<u64>,
@@ -25,6 +28,8 @@ impl Default for Asked {
         Asked {
             against: None,
             program: None,
+            to_new: None,
+            to_old: None,
             books: PathBuf::from(concat!(env!("CARGO_MANIFEST_DIR"), "/../books")),
             seconds: 60,
             count: None,
@@ -60,6 +65,8 @@ impl Asked {
         match word {
             "--books" => self.books = PathBuf::from(value),
             "--program" => self.program = Some(program(vec![value])?),
+            "--to-new" => self.to_new = Some(program(vec![value])?),
+            "--to-old" => self.to_old = Some(program(vec![value])?),
             "--seconds" => self.seconds = number()?,
             "--count" => self.count = Some(number()?),
             "--seed" => self.seed = number()?,

@@ -14,14 +14,19 @@ pub fn generated(seed: u64, many: usize) -> Vec<Pair> {
 
 /// Compares all in this process on a pair, number and map; the first difference, told.
 pub fn compare_pair(sides: &[Side], pair: &Pair) -> Result<(), String> {
-    let (first, second) = pair;
-    let (covered, kept) = (covers(first, second), kept(first, second));
+    let Pair {
+        width,
+        first,
+        second,
+    } = pair;
+    let covered = covers(first, second, *width);
+    let kept = kept(first, second, *width);
     let mine = [
         ("covers", (covered.number, Some(covered.map))),
         ("kept", (kept.which, Some(kept.map))),
     ];
     for side in sides {
-        let theirs = [(side.covers)(first, second), (side.kept)(first, second)];
+        let theirs = [side.covers, side.kept].map(|ask| ask(first, second, *width));
         for ((what, mine), theirs) in mine.iter().zip(theirs) {
             if !agree(*mine, theirs) {
                 let told = |answer| told(what, answer);
@@ -43,11 +48,12 @@ fn told(what: &str, (number, map): Desk) -> String {
     format!("{what} {number}{}", map.unwrap_or_default())
 }
 
-/// Compares a batch program on the pairs; the first difference, told.
-pub fn compare_batch(against: &Against, pairs: &[Pair]) -> Result<(), String> {
-    let both = |(first, second): &Pair| [first.clone(), second.clone()];
-    let records: Vec<Vec<u8>> = pairs.iter().flat_map(both).collect();
-    let said = against.say(&records);
+/// Compares a batch program on the pairs whose width is a byte; on how many, or the first
+/// difference, told.
+pub fn compare_batch(against: &Against, pairs: &[Pair]) -> Result<usize, String> {
+    let framed = pairs.iter().filter_map(|pair| Some((pair, pair.frame()?)));
+    let (pairs, frames): (Vec<&Pair>, Vec<Vec<u8>>) = framed.unzip();
+    let said = against.say_of(frames.concat());
     for (i, pair) in pairs.iter().enumerate() {
         let mine = answer(pair);
         let theirs = said.answers.get(i);
@@ -57,13 +63,19 @@ pub fn compare_batch(against: &Against, pairs: &[Pair]) -> Result<(), String> {
             return Err(difference(pair, &mine, "other program", &theirs));
         }
     }
-    said.trouble.map_or(Ok(()), Err)
+    said.trouble.map_or(Ok(pairs.len()), Err)
 }
 
 /// A difference between the second program and another, shown.
-fn difference((first, second): &Pair, mine: &str, other: &str, theirs: &str) -> String {
+fn difference(pair: &Pair, mine: &str, other: &str, theirs: &str) -> String {
+    let Pair {
+        width,
+        first,
+        second,
+    } = pair;
     format!(
-        "DIFFERENCE\nfirst {first:?}\nsecond {second:?}\nsecond program: {}\n{other}: {theirs}",
+        "DIFFERENCE\nwidth {width}\nfirst {first:?}\nsecond {second:?}\nsecond program: {}\n\
+         {other}: {theirs}",
         mine.trim_end()
     )
 }

@@ -1,15 +1,17 @@
 //! What one says of a book: its answer, and the whole of the output that it was lent.
 
 use crate::side::{Answered, Side};
+use second::copying::{copy_by, BOOK_ROOM};
 use second::run::run_by;
 use second::seen::Seen;
 use second::union::OUTPUT_ROOM;
 use second::way::Way;
+use second::width::Width;
 
-/// How much is lent: more than is needed, so that what must be left alone can be seen.
-const LENT: usize = OUTPUT_ROOM + 64;
+/// How much is lent at most: more than is needed, so that what must be left alone can be seen.
+pub const LENT: usize = OUTPUT_ROOM + 64;
 
-/// What the output holds before: a union has no such run of bytes.
+/// What the output holds before: neither a union nor a book has such a run of bytes.
 const BEFORE: [u8; LENT] = before();
 
 /// Each byte by its place.
@@ -23,10 +25,51 @@ const fn before() -> [u8; LENT] {
     bytes
 }
 
-/// The second program's answer to a book, counting what is met.
-fn run_second(book: &[u8], out: &mut [u8], seen: &mut Seen) -> Answered {
-    let answer = run_by(book, out, Way::Right, seen);
-    (answer.number as u8, answer.place)
+/// What is asked of a book.
+#[derive(Clone, Copy, Debug, PartialEq, Eq)]
+pub enum Asking {
+    /// Its union.
+    Run,
+    /// Its bytes in this form.
+    Copy(Width),
+}
+
+impl Asking {
+    /// The least room for it.
+    pub fn room(self) -> usize {
+        match self {
+            Asking::Run => OUTPUT_ROOM,
+            Asking::Copy(_) => BOOK_ROOM,
+        }
+    }
+
+    /// It in words.
+    pub fn words(self) -> &'static str {
+        match self {
+            Asking::Run => "run",
+            Asking::Copy(Width::Six) => "to_new",
+            Asking::Copy(Width::Four) => "to_old",
+        }
+    }
+
+    /// The second program's answer, counting what is met.
+    fn of_second(self, book: &[u8], out: &mut [u8], seen: &mut Seen) -> Answered {
+        let answer = match self {
+            Asking::Run => run_by(book, out, Way::Right, seen),
+            Asking::Copy(wanted) => copy_by(book, out, wanted, seen),
+        };
+        (answer.number as u8, answer.place)
+    }
+
+    /// Another's answer.
+    fn of_side(self, side: &Side, book: &[u8], out: &mut [u8]) -> Answered {
+        let routine = match self {
+            Asking::Run => side.run,
+            Asking::Copy(Width::Six) => side.to_new,
+            Asking::Copy(Width::Four) => side.to_old,
+        };
+        routine(book, out)
+    }
 }
 
 /// An answer and the output that came with it.
@@ -37,31 +80,31 @@ pub struct Output {
 }
 
 impl Output {
-    /// What the second program says, counting what is met.
-    pub fn of_second(book: &[u8], seen: &mut Seen) -> Output {
+    /// What the second program says in so much room, counting what is met.
+    pub fn of_second(asking: Asking, book: &[u8], room: usize, seen: &mut Seen) -> Output {
         let mut bytes = BEFORE;
-        let answered = run_second(book, &mut bytes, seen);
+        let answered = asking.of_second(book, &mut bytes[..room], seen);
         Output { answered, bytes }
     }
 
-    /// What another says.
-    pub fn of(side: &Side, book: &[u8]) -> Output {
+    /// What another says in so much room.
+    pub fn of(side: &Side, asking: Asking, book: &[u8], room: usize) -> Output {
         let mut bytes = BEFORE;
-        let answered = (side.run)(book, &mut bytes);
+        let answered = asking.of_side(side, book, &mut bytes[..room]);
         Output { answered, bytes }
     }
 
-    /// How much of the output a right run changes.
-    fn written(&self) -> usize {
+    /// What was written, if it was not refused.
+    pub fn written(&self) -> &[u8] {
         match self.answered {
-            (0, total) => total,
-            _ => 0,
+            (0, total) => self.bytes.get(..total).unwrap_or_default(),
+            _ => &[],
         }
     }
 
     /// "No output byte changed" where it is refused; else none after the total.
     pub fn leaves_the_rest(&self) -> bool {
-        let rest = self.written()..;
+        let rest = self.written().len()..;
         self.bytes.get(rest.clone()) == BEFORE.get(rest)
     }
 
@@ -75,22 +118,33 @@ impl Output {
         let byte = both.enumerate().find_map(differs).unwrap_or_default();
         format!("{number} at {place}{byte}")
     }
-}
 
-/// Who does not refuse a small output for this book, if somebody does not.
-pub fn takes_small_output(book: &[u8], sides: &[Side], seen: &mut Seen) -> Option<&'static str> {
-    if !refuses_small_output(|out| run_second(book, out, seen)) {
-        return Some("the second program");
+    /// Whether refusal 1 was given and the output left alone.
+    fn is_refused_for_room(&self) -> bool {
+        self.answered == (1, 0) && self.leaves_the_rest()
     }
-    let takes = |side: &&Side| !refuses_small_output(|out| (side.run)(book, out));
-    sides.iter().find(takes).map(|side| side.name)
 }
 
-/// Whether refusal 1 wins over everything and leaves an output alone that is too small.
-fn refuses_small_output(mut run: impl FnMut(&mut [u8]) -> Answered) -> bool {
-    let mut refuses = |room: usize| {
-        let mut bytes = BEFORE;
-        run(&mut bytes[..room]) == (1, 0) && bytes == BEFORE
-    };
-    [0, 1, OUTPUT_ROOM - 1].into_iter().all(&mut refuses)
+/// All that is asked of a book.
+pub const ASKED: [Asking; 3] = [
+    Asking::Run,
+    Asking::Copy(Width::Six),
+    Asking::Copy(Width::Four),
+];
+
+/// Who does not refuse a small output for this book, if somebody does not: refusal 1 wins over
+/// everything.
+pub fn takes_small_output(book: &[u8], sides: &[Side], seen: &mut Seen) -> Option<&'static str> {
+    for asking in ASKED {
+        for room in [0, 1, asking.room() - 1] {
+            if !Output::of_second(asking, book, room, seen).is_refused_for_room() {
+                return Some("the second program");
+            }
+            let takes = |side: &&Side| !Output::of(side, asking, book, room).is_refused_for_room();
+            if let Some(side) = sides.iter().find(takes) {
+                return Some(side.name);
+            }
+        }
+    }
+    None
 }

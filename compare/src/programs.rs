@@ -4,6 +4,8 @@ use crate::against::Against;
 use crate::show::{first_lines, printed, shown};
 use crate::shrink::shrunk;
 use crate::Named;
+use second::copying::told;
+use second::width::Width;
 use std::thread;
 
 /// Compares a batch program on the books, the second program in a thread beside it; the first
@@ -32,11 +34,26 @@ pub fn compare_batch(against: &Against, books: &[Named]) -> Result<(), String> {
 
 /// Compares a printing program, a start for each book.
 pub fn compare_program(program: &Against, books: &[Named]) -> Result<(), String> {
+    compare_starts("printing program", program, books, printed)
+}
+
+/// Compares a program that copies books into this form, a start for each book.
+pub fn compare_copier(program: &Against, wanted: Width, books: &[Named]) -> Result<(), String> {
+    compare_starts("copying program", program, books, |book| told(book, wanted))
+}
+
+/// Compares a program with what the second program writes, a start for each book.
+fn compare_starts(
+    who: &str,
+    program: &Against,
+    books: &[Named],
+    write: impl Fn(&[u8]) -> Vec<u8>,
+) -> Result<(), String> {
     for (name, bytes) in books {
-        let (mine, theirs) = (printed(bytes), program.print(bytes)?);
+        let (mine, theirs) = (write(bytes), program.print(bytes)?);
         if mine != theirs {
             return Err(format!(
-                "DIFFERENCE on {name}:\n{}second program:\n{}printing program:\n{}",
+                "DIFFERENCE on {name}:\n{}second program:\n{}{who}:\n{}",
                 shown(bytes),
                 first_lines(&mine),
                 first_lines(&theirs),

@@ -1,8 +1,10 @@
 //! Making a book on which two programs differ small enough to read.
 
 use second::book::{self, Book};
+use second::copying::{to_old, BOOK_ROOM};
 use second::seen::Seen;
 use second::term::{variables, Atom, Rule, Term};
+use second::width::Width;
 
 /// Makes a book smaller while the programs still differ on it. `differing` answers with the
 /// first of some smaller books on which they do.
@@ -30,7 +32,7 @@ pub fn smaller_bytes(bytes: &[u8]) -> Vec<Vec<u8>> {
 fn without_parts(bytes: &[u8]) -> Vec<Vec<u8>> {
     let mut all = Vec::new();
     let length = bytes.len();
-    for part in [length / 2, length / 8, 12, 5, 2, 1] {
+    for part in [length / 2, length / 8, 12, 7, 5, 2, 1] {
         let few = part > 0 && (length < 400 || part > length / 10);
         for at in (0..length).step_by(part.max(1)).filter(|_| few) {
             let end = (at + part).min(length);
@@ -49,7 +51,15 @@ pub fn smaller(book: &Book) -> Vec<Book> {
     books.extend(with_fewer_variables(book));
     books.extend(without_relations(book));
     books.extend(without_constants(book));
+    books.extend(in_old_form(book));
     books
+}
+
+/// In the old form, if it is new and has one.
+fn in_old_form(book: &Book) -> Option<Book> {
+    let has_one = || to_old(&book::write(book), &mut [0; BOOK_ROOM]).number == 0;
+    let is_new = book.width == Width::Six && has_one();
+    is_new.then(|| with(book, |b| b.width = Width::Four))
 }
 
 /// The book changed in place.

@@ -2,48 +2,64 @@
 
 use rauntiko::raw;
 
-/// What a run answers: the number and the place.
+/// What a run or a copy answers: the number and the place.
 pub type Answered = (u8, usize);
+
+/// A routine that takes a book and writes to an output that it is lent.
+pub type OfBook = fn(&[u8], &mut [u8]) -> Answered;
 
 /// What the desk answers: covering's number, or which record is kept; and the map, from one
 /// that gives maps.
-pub type Desk = (u8, Option<[u8; 64]>);
+pub type Desk = (u8, Option<[u8; 66]>);
+
+/// A routine of the desk: two records and their width.
+pub type OfRecords = fn(&[u8], &[u8], usize) -> Desk;
 
 /// One implementation.
 #[derive(Clone, Copy)]
 pub struct Side {
     pub name: &'static str,
-    pub run: fn(&[u8], &mut [u8]) -> Answered,
-    pub covers: fn(&[u8], &[u8]) -> Desk,
-    pub kept: fn(&[u8], &[u8]) -> Desk,
+    pub run: OfBook,
+    pub to_new: OfBook,
+    pub to_old: OfBook,
+    pub covers: OfRecords,
+    pub kept: OfRecords,
+}
+
+/// The numbers of a proved routine's answer.
+fn of_proved(answer: raw::Answer) -> Answered {
+    (answer.number, answer.place)
 }
 
 /// The proved routines, as the Rust crate calls them.
 pub const PROVED: Side = Side {
     name: "the proved routines",
-    run: |book, out| {
-        let answer = raw::run(book, out);
-        (answer.number, answer.place)
-    },
-    covers: |first, second| {
-        let covered = raw::covers(first, second);
+    run: |book, out| of_proved(raw::run(book, out)),
+    to_new: |book, out| of_proved(raw::to_new(book, out)),
+    to_old: |book, out| of_proved(raw::to_old(book, out)),
+    covers: |first, second, width| {
+        let covered = raw::covers(first, second, width);
         (covered.number, Some(covered.map))
     },
-    kept: |first, second| {
-        let kept = raw::kept(first, second);
+    kept: |first, second, width| {
+        let kept = raw::kept(first, second, width);
         (kept.which, Some(kept.map))
     },
 };
 
+/// The numbers of plain Rust's answer.
+fn of_plain(answer: plain::Answer) -> Answered {
+    (answer.number, answer.place)
+}
+
 /// The exploration in plain Rust, which gives no maps.
 pub const PLAIN: Side = Side {
     name: "plain Rust",
-    run: |book, out| {
-        let answer = plain::run(book, out);
-        (answer.number, answer.place)
-    },
-    covers: |first, second| (plain::covers(first, second), None),
-    kept: |first, second| (plain::kept(first, second), None),
+    run: |book, out| of_plain(plain::run(book, out)),
+    to_new: |book, out| of_plain(plain::to_new(book, out)),
+    to_old: |book, out| of_plain(plain::to_old(book, out)),
+    covers: |first, second, width| (plain::covers(first, second, width), None),
+    kept: |first, second, width| (plain::kept(first, second, width), None),
 };
 
 /// All of them.

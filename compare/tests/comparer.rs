@@ -1,11 +1,12 @@
 //! The comparer as a command, the programs that it starts, and the shrinking.
 
 use compare::against::Against;
-use compare::programs::{compare_batch, compare_program};
+use compare::programs::{compare_batch, compare_copier, compare_program};
 use compare::{shrink, Named};
 use second::print::print;
 use second::random::Random;
 use second::seen::Seen;
+use second::width::Width;
 use second::{book, generate, limits, pairs};
 use std::process::Command;
 use std::time::Duration;
@@ -46,10 +47,11 @@ fn the_batch_program_answers_each_book() {
 #[test]
 fn the_batch_program_answers_each_pair() {
     let pairs = compare::desk::generated(9, 2000);
-    let records = pairs.iter().flat_map(|(a, b)| [a.clone(), b.clone()]);
-    let said = program(&[BATCH, "--desk"]).say(&Vec::from_iter(records));
-    assert_eq!(said.answers.len(), pairs.len());
-    for (pair, answer) in pairs.iter().zip(&said.answers) {
+    let framed = pairs.iter().filter_map(|pair| Some((pair, pair.frame()?)));
+    let (asked, frames): (Vec<_>, Vec<_>) = framed.unzip();
+    let said = program(&[BATCH, "--desk"]).say_of(frames.concat());
+    assert!(said.answers.len() == asked.len() && asked.len() > 1900);
+    for (pair, answer) in asked.into_iter().zip(&said.answers) {
         assert_eq!(pairs::answer(pair).as_bytes(), &answer[..]);
     }
 }
@@ -74,11 +76,23 @@ fn a_program_that_fails_is_told_of_with_the_book() {
 #[test]
 fn the_printing_program_is_compared_by_itself() {
     let mut books: Vec<Named> = limits::books();
-    books.retain(|(name, _)| name.ends_with(" bytes") || name == "largest");
+    books.retain(|(name, _)| name.ends_with(" bytes") || name.contains("largest"));
     assert!(books.iter().any(|(_, bytes)| bytes.len() > 65_536));
     let right = program(&[BATCH, "--one"]);
     assert_eq!(compare_program(&right, &books), Ok(()));
     assert!(compare_program(&program(&[BATCH]), &books).is_err());
+}
+
+#[test]
+fn the_copying_programs_are_compared_by_themselves() {
+    let mut books: Vec<Named> = limits::books();
+    books.retain(|(name, _)| name.starts_with("new: ") || name.contains("largest"));
+    let copier = |word: &str| program(&[BATCH, "--copy", word]);
+    for (word, other, wanted) in [("new", "old", Width::Six), ("old", "new", Width::Four)] {
+        assert_eq!(compare_copier(&copier(word), wanted, &books), Ok(()));
+        let told = compare_copier(&copier(other), wanted, &books).unwrap_err();
+        assert!(told.contains("copying program"), "{told}");
+    }
 }
 
 #[test]

@@ -4,14 +4,16 @@ use compare::blocks::{each_block, Until};
 use compare::comparison::Comparison;
 use compare::desk::{compare_pair, generated};
 use compare::output::takes_small_output;
-use compare::side::{told as sides_told, Answered, Desk, Side, PLAIN, PROVED, SIDES};
+use compare::side::{told as sides_told, Answered, Desk, OfBook, Side, PLAIN, PROVED, SIDES};
 use compare::Named;
+use second::copying::{to_new, to_old};
 use second::pairs::Pair;
 use second::random::Random;
 use second::run::run_by;
 use second::seen::Seen;
 use second::union::record;
 use second::way::Way;
+use second::width::Width;
 use second::{desk, generate};
 use std::collections::BTreeSet;
 use std::sync::Mutex;
@@ -23,27 +25,34 @@ fn by(way: Way, book: &[u8], out: &mut [u8]) -> Answered {
 }
 
 /// What the second program's covering gives.
-fn covers(first: &[u8], second: &[u8]) -> Desk {
-    let covered = desk::covers(first, second);
+fn covers(first: &[u8], second: &[u8], width: usize) -> Desk {
+    let covered = desk::covers(first, second, width);
     (covered.number, Some(covered.map))
 }
 
 /// Which one it keeps.
-fn kept(first: &[u8], second: &[u8]) -> Desk {
-    let kept = desk::kept(first, second);
+fn kept(first: &[u8], second: &[u8], width: usize) -> Desk {
+    let kept = desk::kept(first, second, width);
     (kept.which, Some(kept.map))
+}
+
+/// The numbers of a copy that the second program makes.
+fn copied(answer: second::run::Answer) -> Answered {
+    (answer.number as u8, answer.place)
 }
 
 /// The second program as a side.
 const RIGHT: Side = Side {
     name: "the second program once more",
     run: |book, out| by(Way::Right, book, out),
+    to_new: |book, out| copied(to_new(book, out)),
+    to_old: |book, out| copied(to_old(book, out)),
     covers,
     kept,
 };
 
 /// One that runs books in another way.
-const fn running(run: fn(&[u8], &mut [u8]) -> Answered) -> Side {
+const fn running(run: OfBook) -> Side {
     Side { run, ..RIGHT }
 }
 
@@ -66,6 +75,7 @@ fn a_right_side_passes() {
     let mut comparison = Comparison::new(SIDES);
     assert_eq!(comparison.compare(&books(500)), Ok(()));
     assert_eq!(comparison.compared, 500);
+    assert!(comparison.in_both_forms > 150);
     let times = comparison.times();
     assert!(times.contains("the proved routines"), "{times}");
     assert!(times.contains("plain Rust"), "{times}");
@@ -149,6 +159,86 @@ fn a_side_that_takes_a_small_output_is_caught() {
     assert_eq!(taken, Some(RIGHT.name));
 }
 
+#[test]
+fn a_wrong_copy_is_caught() {
+    let no_thirteen = Side {
+        to_old: |book, out| match copied(to_old(book, out)) {
+            (13, _) => copied(to_new(book, out)),
+            other => other,
+        },
+        ..RIGHT
+    };
+    let wide_last = Side {
+        to_old: |book, out| match copied(to_old(book, out)) {
+            (13, place) if book[place] < 7 => (13, place + 1),
+            other => other,
+        },
+        ..RIGHT
+    };
+    let used = Side {
+        to_new: |book, out| {
+            let answered = copied(to_new(book, out));
+            if answered.0 == 0 {
+                out[answered.1 - 1] = 0;
+            }
+            answered
+        },
+        ..RIGHT
+    };
+    let touched = Side {
+        to_new: |book, out| {
+            let answered = copied(to_new(book, out));
+            if answered.0 > 1 {
+                out[0] = 1;
+            }
+            answered
+        },
+        ..RIGHT
+    };
+    for side in [no_thirteen, wide_last, used, touched] {
+        assert!(told(side).unwrap_err().starts_with("DIFFERENCE"));
+    }
+}
+
+#[test]
+fn another_room_for_a_copy_is_caught() {
+    let exact_room = Side {
+        to_old: |book, out| {
+            let mut copy = [0; 2003];
+            let (number, place) = copied(to_old(book, &mut copy));
+            match (number, out.get_mut(..place)) {
+                (0, None) => return (1, 0),
+                (0, Some(out)) => out.copy_from_slice(&copy[..place]),
+                _ => (),
+            }
+            (number, place)
+        },
+        ..RIGHT
+    };
+    let more_room = Side {
+        to_old: |book, out| match out.len() < 2004 {
+            true => (1, 0),
+            false => copied(to_old(book, out)),
+        },
+        ..RIGHT
+    };
+    for side in [exact_room, more_room] {
+        assert!(told(side).unwrap_err().starts_with("DIFFERENCE"));
+    }
+}
+
+#[test]
+fn a_side_that_runs_the_new_form_otherwise_is_caught() {
+    let as_old = running(|book, out| {
+        let mut old = vec![0; 2003];
+        match copied(to_old(book, &mut old)) {
+            (0, length) => by(Way::Right, &old[..length], out),
+            _ => by(Way::Right, book, out),
+        }
+    });
+    assert!(told(as_old).unwrap_err().starts_with("DIFFERENCE"));
+}
+
 /// What is told of a side on generated pairs.
 fn told_of_pairs(side: Side) -> Result<(), String> {
     let mut pairs = generated(22, 2000).into_iter();
@@ -159,49 +249,62 @@ fn told_of_pairs(side: Side) -> Result<(), String> {
 fn a_wrong_number_of_the_desk_is_caught() {
     assert_eq!(told_of_pairs(RIGHT), Ok(()));
     let turned = Side {
-        covers: |first, second| covers(second, first),
+        covers: |first, second, width| covers(second, first, width),
         ..RIGHT
     };
     let second_kept = Side {
-        kept: |first, second| match kept(first, second) {
-            (1, map) if covers(second, first).0 == 1 => (2, map),
+        kept: |first, second, width| match kept(first, second, width) {
+            (1, map) if covers(second, first, width).0 == 1 => (2, map),
             other => other,
         },
         ..RIGHT
     };
     let without_map = Side {
-        covers: |first, second| (covers(second, first).0, None),
+        covers: |first, second, width| (covers(second, first, width).0, None),
         ..RIGHT
     };
-    for side in [turned, second_kept, without_map] {
+    let cut_width = Side {
+        covers: |first, second, width| covers(first, second, width & 255),
+        ..RIGHT
+    };
+    let any_width = Side {
+        kept: |first, second, width| kept(first, second, if width < 6 { 4 } else { 6 }),
+        ..RIGHT
+    };
+    for side in [turned, second_kept, without_map, cut_width, any_width] {
         let told = told_of_pairs(side).unwrap_err();
-        assert!(told.starts_with("DIFFERENCE\nfirst ["), "{told}");
+        assert!(told.starts_with("DIFFERENCE\nwidth "), "{told}");
     }
 }
 
 /// A record's atoms from the last to the first, if it is sound; else itself.
-fn from_behind(bytes: &[u8]) -> Vec<u8> {
-    let question = desk::question_of(bytes);
-    question.map_or(bytes.to_vec(), |question| record(&question.turned_round()))
+fn from_behind(bytes: &[u8], width: usize) -> Vec<u8> {
+    let question = desk::question_of(bytes, width).zip(Width::of(width));
+    question.map_or(bytes.to_vec(), |(question, width)| {
+        record(&question.turned_round(), width)
+    })
 }
 
 #[test]
 fn a_wrong_map_is_caught() {
     let last_map = Side {
-        covers: |first, second| covers(first, &from_behind(second)),
+        covers: |first, second, width| covers(first, &from_behind(second, width), width),
         ..RIGHT
     };
     let last_atom_first = Side {
-        covers: |first, second| covers(&from_behind(first), second),
+        covers: |first, second, width| covers(&from_behind(first, width), second, width),
         ..RIGHT
     };
     let others_map = Side {
-        kept: |first, second| (kept(first, second).0, covers(first, second).1),
+        kept: |first, second, width| {
+            let map = covers(first, second, width).1;
+            (kept(first, second, width).0, map)
+        },
         ..RIGHT
     };
     let untouched = Side {
-        kept: |first, second| match kept(first, second) {
-            (0, _) => (0, Some([0; 64])),
+        kept: |first, second, width| match kept(first, second, width) {
+            (0, _) => (0, Some([0; 66])),
             other => other,
         },
         ..RIGHT
@@ -214,12 +317,13 @@ fn a_wrong_map_is_caught() {
 
 #[test]
 fn the_proved_routines_give_maps_and_plain_rust_gives_none() {
-    for (first, second) in generated(23, 200) {
+    for pair in generated(23, 200) {
+        let (first, second, width) = (&pair.first[..], &pair.second[..], pair.width);
         let (ask, keep) = (PROVED.covers, PROVED.kept);
-        assert_eq!(ask(&first, &second), covers(&first, &second));
-        assert_eq!(keep(&first, &second), kept(&first, &second));
-        assert_eq!((PLAIN.covers)(&first, &second).1, None);
-        assert_eq!((PLAIN.kept)(&first, &second).1, None);
+        assert_eq!(ask(first, second, width), covers(first, second, width));
+        assert_eq!(keep(first, second, width), kept(first, second, width));
+        assert_eq!((PLAIN.covers)(first, second, width).1, None);
+        assert_eq!((PLAIN.kept)(first, second, width).1, None);
     }
 }
 

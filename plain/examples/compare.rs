@@ -19,7 +19,9 @@ fn main() {
     for &seed in seeds {
         let mut random = Random::new(seed);
         for i in 0..*books {
-            common::same(&format!("seed {seed}, {i}"), &generate::next(&mut random));
+            let (name, book) = (format!("seed {seed}, {i}"), generate::next(&mut random));
+            common::same(&name, &book);
+            common::same_copies(&name, &book);
         }
         for i in 0..*crowded {
             let name = format!("seed {seed}, crowded {i}");

@@ -1,13 +1,27 @@
-//! Atoms, each packed into one word, so that two are compared at once.
+//! Atoms, each packed into one word, so that two are compared at once. All that has atoms is
+//! made for each width W, four places and six, so that the narrower ones wait for no others.
 
-/// The most places of an atom.
-pub const PLACES: usize = 4;
+/// The places of an atom in the old form of a book.
+pub const FOUR: usize = 4;
+
+/// The same in the new form: the most there are.
+pub const SIX: usize = 6;
+
+/// The most answer places.
+pub const ANSWER_PLACES: usize = 4;
 
 /// The bytes of an atom or an answer record as stored: the relation, then the places.
-pub const RECORD: usize = 1 + PLACES;
+pub const fn record_length(places: usize) -> usize {
+    1 + places
+}
 
-/// The most variables of a rule, of a book's question and of a member.
-pub const VARIABLES: usize = 32;
+/// How many variables a rule, a book's question and a member may have.
+pub const fn variables(places: usize) -> usize {
+    8 * places
+}
+
+/// The most of them.
+pub const VARIABLES: usize = variables(SIX);
 
 /// The most relations.
 pub const RELATIONS: usize = 64;
@@ -24,27 +38,13 @@ pub const FIRST_CONSTANT: u8 = 128;
 /// How many bytes may stand in a place: the length of a table of terms.
 pub const TERMS: usize = 256;
 
-/// Bit 0 of every byte that holds a place.
-const LOW: u64 = {
-    let mut bits = 0;
-    let mut place = 0;
-    while place < PLACES {
-        bits |= 1 << shift(place);
-        place += 1;
-    }
-    bits
-};
-
-/// The bytes that hold the places.
-pub const ALL_PLACES: u64 = LOW * 255;
-
 /// Where the number of used places stands.
 const USED: u32 = 56;
 
 /// An atom or an answer record: in the lowest byte its relation, then its places, in the
 /// highest byte how many of them are used.
 #[derive(Clone, Copy, Debug, PartialEq, Eq)]
-pub struct Atom(pub u64);
+pub struct Atom<const W: usize>(pub u64);
 
 /// How far up the byte of a place stands.
 const fn shift(place: usize) -> u32 {
@@ -61,27 +61,42 @@ pub fn is_variable(term: u8) -> bool {
     term < FIRST_CONSTANT
 }
 
-impl Atom {
+impl<const W: usize> Atom<W> {
+    /// Bit 0 of every byte that holds a place.
+    const LOW: u64 = {
+        let mut bits = 0;
+        let mut place = 0;
+        while place < W {
+            bits |= 1 << shift(place);
+            place += 1;
+        }
+        bits
+    };
+
+    /// The bytes that hold the places.
+    pub const ALL_PLACES: u64 = Self::LOW * 255;
+
+    /// The bytes of the atom as stored.
+    pub const RECORD: usize = record_length(W);
+
     /// No record, every place unused: what a Boolean question has for an answer record.
-    pub const NONE: Atom = Atom(ALL_PLACES);
+    pub const NONE: Atom<W> = Atom(Self::ALL_PLACES);
 
     /// The sound atom that the first bytes hold: used places first.
     #[inline]
-    pub fn of(bytes: &[u8]) -> Atom {
-        let record: &[u8; RECORD] = bytes[..RECORD].try_into().unwrap();
+    pub fn of(bytes: &[u8]) -> Atom<W> {
         let mut word = [0; 8];
-        word[..RECORD].copy_from_slice(record);
+        word[..Self::RECORD].copy_from_slice(&bytes[..Self::RECORD]);
         let bits = u64::from_le_bytes(word);
         // A place is unused exactly if its byte has all bits; so the last used one is where
         // the highest bit is that it has not.
-        let used = ((!bits & ALL_PLACES) | 1).ilog2() / 8;
+        let used = ((!bits & Self::ALL_PLACES) | 1).ilog2() / 8;
         Atom(bits | (used as u64) << USED)
     }
 
-    /// The bytes of the atom as stored.
-    pub fn record(self) -> [u8; RECORD] {
-        let word = self.0.to_le_bytes();
-        word[..RECORD].try_into().unwrap()
+    /// Writes the bytes of the atom at the front of the output.
+    pub fn write(self, out: &mut [u8]) {
+        out[..Self::RECORD].copy_from_slice(&self.0.to_le_bytes()[..Self::RECORD]);
     }
 
     /// Its relation, or `ANSWER`.
@@ -106,31 +121,31 @@ impl Atom {
     }
 
     /// The atom with this term in a place.
-    pub fn with(self, place: usize, term: u8) -> Atom {
+    pub fn with(self, place: usize, term: u8) -> Atom<W> {
         Atom(self.0 & !byte_of(place) | (term as u64) << shift(place))
     }
 
     /// The atom with each term replaced by what the table has for it. The table keeps
     /// `UNUSED`, so that all places can be looked up alike.
     #[inline]
-    pub fn through(self, table: &[u8; TERMS]) -> Atom {
-        let mut bits = self.0 & !ALL_PLACES;
-        for place in 0..PLACES {
+    pub fn through(self, table: &[u8; TERMS]) -> Atom<W> {
+        let mut bits = self.0 & !Self::ALL_PLACES;
+        for place in 0..W {
             bits |= (table[self.place(place) as usize] as u64) << shift(place);
         }
         Atom(bits)
     }
 
     /// The atom with so much added to the number of every variable.
-    pub fn moved(self, by: usize) -> Atom {
-        let variables = !(self.0 >> 7) & LOW;
+    pub fn moved(self, by: usize) -> Atom<W> {
+        let variables = !(self.0 >> 7) & Self::LOW;
         Atom(self.0 + variables * by as u64)
     }
 
     /// The bytes that no map changes: constants, unused places, and what is no place.
     pub fn fixed(self) -> u64 {
-        let high = (self.0 >> 7) & LOW;
-        !ALL_PLACES | (high * 255)
+        let high = (self.0 >> 7) & Self::LOW;
+        !Self::ALL_PLACES | (high * 255)
     }
 
     /// Whether one of its terms is a constant.
@@ -152,7 +167,7 @@ impl Atom {
     /// Its relation and number of places in one number. An atom goes only to one of its kind.
     #[inline]
     pub fn kind(self) -> usize {
-        let used = self.used().wrapping_sub(1) % PLACES;
+        let used = self.used().wrapping_sub(1) % W;
         self.relation() as usize % RELATIONS + RELATIONS * used
     }
 

@@ -16,20 +16,20 @@ const MANY_STEPS: usize = 64;
 const FEW_OPTIONS: u32 = 3;
 
 /// What a run works with, made once and used again.
-pub struct Workshop {
-    pub members: Members,
+pub struct Workshop<const W: usize> {
+    pub members: Members<W>,
     pub classes: Classes,
-    pub target: Target,
+    pub target: Target<W>,
     pub seen: Seen,
     /// How many times a rule had its turn.
     pub turns: u32,
 }
 
 /// Choices being built.
-struct Choices<'a> {
-    asked: &'a Asked,
-    rule: &'a Rule,
-    work: &'a mut Workshop,
+struct Choices<'a, const W: usize> {
+    asked: &'a Asked<W>,
+    rule: &'a Rule<W>,
+    work: &'a mut Workshop<W>,
     /// The relations of the question and the body.
     relations: u64,
     /// The members whose relations are among them, as bits. Only these cover rewritings.
@@ -53,7 +53,11 @@ struct Prefix {
 }
 
 /// Admits the rewritings of all choices, in order.
-pub fn admit_all(asked: &Asked, rule: &Rule, work: &mut Workshop) -> Result<(), Stop> {
+pub fn admit_all<const W: usize>(
+    asked: &Asked<W>,
+    rule: &Rule<W>,
+    work: &mut Workshop<W>,
+) -> Result<(), Stop> {
     let options = Options::of(asked, rule);
     if options.0 == 0 {
         return Ok(());
@@ -82,7 +86,7 @@ pub fn admit_all(asked: &Asked, rule: &Rule, work: &mut Workshop) -> Result<(), 
     end
 }
 
-impl Choices<'_> {
+impl<const W: usize> Choices<'_, W> {
     /// Holds the answer variables, for the answer record is always left, leaves the atoms that
     /// no head atom can meet, and goes on.
     fn start(&mut self, mut prefix: Prefix) -> Result<(), Stop> {

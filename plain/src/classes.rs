@@ -1,11 +1,11 @@
 //! The classes of terms that a choice makes, undone on the way back instead of copied.
 
-use crate::atom::{is_variable, Atom, FIRST_CONSTANT, PLACES, TERMS, UNUSED, VARIABLES};
+use crate::atom::{is_variable, Atom, FIRST_CONSTANT, SIX, TERMS, UNUSED, VARIABLES};
 use crate::form::MEMBER_ATOMS;
 
 /// The most steps that one choice takes: the answer record and each question atom take one
 /// for each place.
-const MOST_STEPS: usize = (1 + MEMBER_ATOMS) * PLACES;
+const MOST_STEPS: usize = (1 + MEMBER_ATOMS) * SIX;
 
 /// Said of a class that has an unknown.
 pub const UNKNOWN: u8 = 1;
@@ -76,20 +76,20 @@ impl Classes {
 
     /// Puts the terms at equal places in one class; false if no valid choice does.
     #[inline]
-    pub fn send(&mut self, atom: Atom, head: Atom) -> bool {
+    pub fn send<const W: usize>(&mut self, atom: Atom<W>, head: Atom<W>) -> bool {
         (0..atom.used()).all(|place| self.join(atom.place(place), head.place(place)))
     }
 
     /// Leaves an atom, so that no unknown may meet its variables; false if one has.
     #[inline]
-    pub fn leave(&mut self, atom: Atom) -> bool {
+    pub fn leave<const W: usize>(&mut self, atom: Atom<W>) -> bool {
         atom.terms().all(|term| self.hold(term))
     }
 
     /// Whether sending an atom so might still be valid: no two terms at one place are kept
     /// apart by what is said of their classes.
     #[inline]
-    pub fn can_send(&self, atom: Atom, head: Atom) -> bool {
+    pub fn can_send<const W: usize>(&self, atom: Atom<W>, head: Atom<W>) -> bool {
         (0..atom.used()).all(|place| {
             let a = self.name[atom.place(place) as usize];
             let b = self.name[head.place(place) as usize];

@@ -22,7 +22,7 @@ struct Placing {
 }
 
 /// Whether the pattern's question covers the target.
-pub fn covers(pattern: &Pattern, target: &Target) -> bool {
+pub fn covers<const W: usize>(pattern: &Pattern<W>, target: &Target<W>) -> bool {
     let beside = pattern.relations & !target.relations;
     if beside != 0 || !pattern.answer_goes_to(target.answer) {
         return false;
@@ -54,7 +54,7 @@ fn is_single(candidates: u16) -> bool {
 
 /// The candidates of an atom when nothing else is placed.
 #[inline]
-fn alone(sought: &Sought, target: &Target) -> u16 {
+fn alone<const W: usize>(sought: &Sought<W>, target: &Target<W>) -> u16 {
     let atom = sought.atom;
     let mut candidates = target.of_kind(sought.kind as usize);
     for place in bits(sought.constants as u64) {
@@ -70,12 +70,12 @@ fn alone(sought: &Sought, target: &Target) -> u16 {
 }
 
 /// A search for a map.
-struct Search<'a> {
-    pattern: &'a Pattern,
-    target: &'a Target,
+struct Search<'a, const W: usize> {
+    pattern: &'a Pattern<W>,
+    target: &'a Target<W>,
 }
 
-impl Search<'_> {
+impl<const W: usize> Search<'_, W> {
     /// Whether the rest can be placed. Each of its atoms has a candidate.
     fn place(&self, mut now: Placing) -> bool {
         while now.single != 0 {

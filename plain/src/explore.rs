@@ -12,13 +12,13 @@ use crate::target::Target;
 use crate::Answer;
 
 /// A complete run: the members, and how many questions were taken up.
-pub struct Explored {
-    pub members: Members,
+pub struct Explored<const W: usize> {
+    pub members: Members<W>,
     pub explored: usize,
 }
 
 /// Explores until no member is unexplored, or gives refusal 8, 9 or 10.
-pub fn explore(book: &Book) -> Result<Explored, Answer> {
+pub fn explore<const W: usize>(book: &Book<W>) -> Result<Explored<W>, Answer> {
     let mut work = Workshop {
         members: Members::new(book.question),
         classes: Classes::new(),
@@ -43,7 +43,11 @@ pub fn explore(book: &Book) -> Result<Explored, Answer> {
 
 /// Goes through the rules in book order, but for those with no relation of the question in
 /// their heads: they have no choice that is valid.
-fn explore_one(book: &Book, form: Form, work: &mut Workshop) -> Result<(), Stop> {
+fn explore_one<const W: usize>(
+    book: &Book<W>,
+    form: Form<W>,
+    work: &mut Workshop<W>,
+) -> Result<(), Stop> {
     let heads = form.atoms().iter().map(|atom| atom.relation() as usize);
     let rules = heads.fold(0, |rules, relation| rules | book.by_head[relation]);
     if rules == 0 {

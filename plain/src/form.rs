@@ -8,16 +8,16 @@ pub const MEMBER_ATOMS: usize = 8;
 
 /// A question in its form. It may have more atoms than a member.
 #[derive(Clone, Copy)]
-pub struct Form {
-    pub answer: Atom,
+pub struct Form<const W: usize> {
+    pub answer: Atom<W>,
     pub count: usize,
-    atoms: [Atom; MOST_ATOMS],
+    atoms: [Atom<W>; MOST_ATOMS],
 }
 
-impl Form {
+impl<const W: usize> Form<W> {
     /// The form of a question: equal atoms dropped but for the first, then variables numbered
     /// by first appearance, those of the answer record first.
-    pub fn of(answer: Atom, atoms: &[Atom]) -> Form {
+    pub fn of(answer: Atom<W>, atoms: &[Atom<W>]) -> Form<W> {
         let mut form = Form {
             answer,
             count: 0,
@@ -34,7 +34,7 @@ impl Form {
     }
 
     /// Its atoms.
-    pub fn atoms(&self) -> &[Atom] {
+    pub fn atoms(&self) -> &[Atom<W>] {
         &self.atoms[..self.count]
     }
 

@@ -1,10 +1,24 @@
 //! The header of a stored book, and refusals 2 to 4.
 
-use crate::atom::{RECORD, RELATIONS};
+use crate::atom::{record_length, FOUR, RELATIONS, SIX};
 use crate::Answer;
 
-/// The length of the header: nine words.
-pub const HEADER: usize = 18;
+/// The room of an atom in this book: six places exactly if the relations' offset is that of the
+/// new form.
+pub fn places_of(book: &[u8]) -> usize {
+    match book.get(10..12) {
+        Some(&[low, high]) if usize::from(u16::from_le_bytes([low, high])) == header(SIX) => SIX,
+        _ => FOUR,
+    }
+}
+
+/// The length of the header: nine words, in the new form ten.
+const fn header(places: usize) -> usize {
+    match places {
+        SIX => 20,
+        _ => 18,
+    }
+}
 
 /// The most constants.
 const CONSTANTS: usize = 127;
@@ -13,13 +27,13 @@ const CONSTANTS: usize = 127;
 pub const RULES: usize = 32;
 
 /// The most atoms of the question.
-const QUESTION_ATOMS: usize = 8;
+pub const QUESTION_ATOMS: usize = 8;
 
 /// The most explorations allowed.
 const ALLOWED: usize = 1000;
 
 /// What the header of a sound book says.
-pub struct Header {
+pub struct Header<const W: usize> {
     pub relations: usize,
     pub constants: usize,
     pub rules: usize,
@@ -30,10 +44,13 @@ pub struct Header {
     pub answered: bool,
 }
 
-impl Header {
+impl<const W: usize> Header<W> {
+    /// Its length, where the relations stand.
+    pub const LENGTH: usize = header(W);
+
     /// The header of a book, or refusal 2, 3 or 4.
-    pub fn of(book: &[u8]) -> Result<Header, Answer> {
-        if book.len() < HEADER {
+    pub fn of(book: &[u8]) -> Result<Header<W>, Answer> {
+        if book.len() < Self::LENGTH {
             return Err(Answer::new(2, 0));
         }
         let word = |i: usize| u16::from_le_bytes([book[2 * i], book[2 * i + 1]]) as usize;
@@ -45,13 +62,13 @@ impl Header {
             atoms: word(3),
             allowed: word(4),
             question_at,
-            answered: total == question_at + RECORD * (word(3) + 1),
+            answered: total == question_at + record_length(W) * (word(3) + 1),
         };
-        if !header.is_in_table() {
+        if !header.is_in_table() || (W == SIX && word(9) != SIX) {
             return Err(Answer::new(3, 0));
         }
         let rules_at = header.rules_at();
-        let apart = word(5) == HEADER && word(6) == rules_at && rules_at <= question_at;
+        let apart = word(5) == Self::LENGTH && word(6) == rules_at && rules_at <= question_at;
         if !apart || total != header.end() || total != book.len() {
             return Err(Answer::new(4, 0));
         }
@@ -69,16 +86,16 @@ impl Header {
 
     /// Where the rules begin.
     pub fn rules_at(&self) -> usize {
-        HEADER + self.relations
+        Self::LENGTH + self.relations
     }
 
     /// Where the question's atoms begin.
     pub fn atoms_at(&self) -> usize {
-        self.question_at + RECORD * self.answered as usize
+        self.question_at + record_length(W) * self.answered as usize
     }
 
     /// Where the question ends.
     fn end(&self) -> usize {
-        self.atoms_at() + RECORD * self.atoms
+        self.atoms_at() + record_length(W) * self.atoms
     }
 }

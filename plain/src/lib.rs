@@ -5,13 +5,14 @@
 //! Reading order: `atom` and `bits` are what all is made of; `form` is how questions are
 //! kept; `pattern`, `target` and `cover` say which covers which; `rule`, `classes`, `options`,
 //! `seen` and `choices` make rewritings; `members` and `explore` are a run; `header`, `book` and `union`
-//! are its bytes; `desk` is the search desk.
+//! are its bytes, `copying` a book's in the other form; `desk` is the search desk.
 
 mod atom;
 mod bits;
 mod book;
 mod choices;
 mod classes;
+mod copying;
 mod cover;
 mod desk;
 mod explore;
@@ -25,9 +26,11 @@ mod seen;
 mod target;
 mod union;
 
+pub use copying::{to_new, to_old, BOOK_ROOM};
 pub use desk::{covers, kept};
 pub use union::OUTPUT_ROOM;
 
+use atom::{FOUR, SIX};
 use book::Book;
 use explore::explore;
 
@@ -50,7 +53,15 @@ pub fn run(book: &[u8], out: &mut [u8]) -> Answer {
     if out.len() < OUTPUT_ROOM {
         return Answer::new(1, 0);
     }
-    match Book::read(book).and_then(|book| explore(&book)) {
+    match header::places_of(book) {
+        SIX => run_of::<SIX>(book, out),
+        _ => run_of::<FOUR>(book, out),
+    }
+}
+
+/// Runs a book whose atoms have room for W places; the output has room.
+fn run_of<const W: usize>(book: &[u8], out: &mut [u8]) -> Answer {
+    match Book::<W>::read(book).and_then(|book| explore(&book)) {
         Err(refused) => refused,
         Ok(run) => Answer::new(0, union::write(&run, out)),
     }

@@ -10,9 +10,9 @@ use crate::target::Target;
 pub const MOST_MEMBERS: usize = 64;
 
 /// A member: its question, and the same made ready to cover others.
-struct Member {
-    form: Form,
-    pattern: Pattern,
+struct Member<const W: usize> {
+    form: Form<W>,
+    pattern: Pattern<W>,
 }
 
 /// Why the exploration of a member ends early.
@@ -26,8 +26,8 @@ pub enum Stop {
 
 /// The members. Each keeps its seat as long as it is one, so that none is moved when another
 /// is removed, and sets of members are the bits of their seats.
-pub struct Members {
-    seats: Vec<Member>,
+pub struct Members<const W: usize> {
+    seats: Vec<Member<W>>,
     /// The seats that are taken, as bits.
     taken: u64,
     /// The relations of the member in each seat, as bits; they refute most coverings and
@@ -45,9 +45,9 @@ pub struct Members {
     last: usize,
 }
 
-impl Members {
+impl<const W: usize> Members<W> {
     /// The question as the first member.
-    pub fn new(question: Form) -> Members {
+    pub fn new(question: Form<W>) -> Members<W> {
         let mut members = Members {
             seats: Vec::with_capacity(MOST_MEMBERS),
             taken: 0,
@@ -68,7 +68,7 @@ impl Members {
     }
 
     /// The questions of the members in order of arrival.
-    pub fn forms(&self) -> impl Iterator<Item = &Form> {
+    pub fn forms(&self) -> impl Iterator<Item = &Form<W>> {
         let order = self.order[..self.count].iter();
         order.map(|&seat| &self.seats[seat as usize].form)
     }
@@ -79,7 +79,7 @@ impl Members {
     }
 
     /// Takes up the oldest unexplored member.
-    pub fn take_up(&mut self) -> Form {
+    pub fn take_up(&mut self) -> Form<W> {
         self.taken_up = self.order[self.explored];
         self.explored += 1;
         self.seats[self.taken_up as usize].form
@@ -106,7 +106,7 @@ impl Members {
 
     /// Whether one of these members covers the target.
     #[inline]
-    pub fn cover(&mut self, near: u64, target: &Target) -> bool {
+    pub fn cover(&mut self, near: u64, target: &Target<W>) -> bool {
         if near == 0 {
             return false;
         }
@@ -126,7 +126,7 @@ impl Members {
 
     /// Admits a rewriting that no member covers: refusal 8, members that it covers removed,
     /// refusal 9, appended.
-    pub fn admit(&mut self, rewriting: &mut Target) -> Result<(), Stop> {
+    pub fn admit(&mut self, rewriting: &mut Target<W>) -> Result<(), Stop> {
         let form = Form::of(rewriting.answer, rewriting.atoms());
         if form.count > MEMBER_ATOMS {
             return Err(Stop::Refused(8));
@@ -147,7 +147,7 @@ impl Members {
     }
 
     /// The members that the pattern covers, as bits.
-    fn covered_by(&self, pattern: &Pattern, target: &mut Target) -> u64 {
+    fn covered_by(&self, pattern: &Pattern<W>, target: &mut Target<W>) -> u64 {
         let mut covered = 0;
         for (seat, member) in self.seats.iter().enumerate() {
             let beside = pattern.relations & !self.relations[seat];
@@ -176,7 +176,7 @@ impl Members {
     }
 
     /// Appends a member in a free seat.
-    fn append(&mut self, form: Form, pattern: Pattern) {
+    fn append(&mut self, form: Form<W>, pattern: Pattern<W>) {
         let seat = self.taken.trailing_ones() as usize;
         self.relations[seat] = pattern.relations;
         self.taken |= 1 << seat;

@@ -1,13 +1,13 @@
 //! Which head atoms each atom of a question can be sent to, before any choice is made.
 
-use crate::atom::{byte_of, is_variable, Atom, PLACES};
+use crate::atom::{byte_of, is_variable, Atom};
 use crate::bits::bits;
 use crate::form::{Form, MEMBER_ATOMS};
 use crate::rule::Rule;
 
 /// A member taken up.
-pub struct Asked {
-    pub form: Form,
+pub struct Asked<const W: usize> {
+    pub form: Form<W>,
     /// Its relations as bits.
     pub relations: u64,
     /// Whether an atom has constants.
@@ -22,7 +22,7 @@ pub struct Asked {
 pub struct Options(pub u64);
 
 /// The variables of an atom that stand in these bytes, as bits.
-fn variables_in(atom: Atom, bytes: u64) -> u64 {
+fn variables_in<const W: usize>(atom: Atom<W>, bytes: u64) -> u64 {
     let mut variables = 0;
     for (place, term) in atom.terms().enumerate() {
         let counts = is_variable(term) && bytes & byte_of(place) != 0;
@@ -31,9 +31,9 @@ fn variables_in(atom: Atom, bytes: u64) -> u64 {
     variables
 }
 
-impl Asked {
+impl<const W: usize> Asked<W> {
     /// A member about to be explored.
-    pub fn new(form: Form) -> Asked {
+    pub fn new(form: Form<W>) -> Asked<W> {
         let mut asked = Asked {
             form,
             relations: form
@@ -53,14 +53,14 @@ impl Asked {
         }
         for (at, &atom) in form.atoms().iter().enumerate() {
             let is_alone = |&place: &usize| variables_in(atom, byte_of(place)) & once & !again != 0;
-            let places = (0..PLACES).filter(is_alone);
+            let places = (0..W).filter(is_alone);
             asked.alone[at] = places.fold(0, |bytes, place| bytes | byte_of(place));
         }
         asked
     }
 
     /// The atoms.
-    pub fn atoms(&self) -> &[Atom] {
+    pub fn atoms(&self) -> &[Atom<W>] {
         self.form.atoms()
     }
 
@@ -78,7 +78,7 @@ impl Asked {
     /// same rewritings as with the earlier one; these were seen, and a rewriting that was
     /// once dropped or admitted is covered by some member ever after: a member goes only for
     /// one that covers it.
-    fn heads(&self, at: usize, rule: &Rule) -> u8 {
+    fn heads(&self, at: usize, rule: &Rule<W>) -> u8 {
         let (atom, alone) = (self.atoms()[at], self.alone[at]);
         let (fixed, head) = (atom.fixed(), rule.head());
         let mut heads = 0;
@@ -96,7 +96,7 @@ impl Asked {
 impl Options {
     /// The head atoms that each atom can be sent to by itself. An atom that no head atom can
     /// meet is left in every choice.
-    pub fn of(asked: &Asked, rule: &Rule) -> Options {
+    pub fn of<const W: usize>(asked: &Asked<W>, rule: &Rule<W>) -> Options {
         let mut options = Options(0);
         for at in 0..asked.form.count {
             options.0 |= (asked.heads(at, rule) as u64) << (8 * at);

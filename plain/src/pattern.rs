@@ -1,26 +1,26 @@
 //! A question made ready to cover others: what does not change from one test to the next
 //! is worked out once.
 
-use crate::atom::{byte_of, is_variable, Atom, ALL_PLACES, FIRST_CONSTANT, PLACES};
+use crate::atom::{byte_of, is_variable, Atom, ANSWER_PLACES, FIRST_CONSTANT, SIX};
 use crate::bits::bits;
 
 /// The most atoms that a question has, at the desk or before it is a member.
 pub const MOST_ATOMS: usize = 11;
 
 /// The most variables that stand in two atoms or more.
-const MOST_SHARED: usize = MOST_ATOMS * PLACES / 2;
+const MOST_SHARED: usize = MOST_ATOMS * SIX / 2;
 
 /// Stands in a pattern for a variable that occurs in this atom alone.
 const ALONE: u8 = FIRST_CONSTANT - 1;
 
 /// The first of the bytes that stand for what is found at an answer place.
-const ASKED: u8 = ALONE - PLACES as u8;
+const ASKED: u8 = ALONE - ANSWER_PLACES as u8;
 
 /// An atom that is to be placed.
 #[derive(Clone, Copy)]
-pub struct Sought {
+pub struct Sought<const W: usize> {
     /// The atom: shared variables numbered from 0, the others `ALONE` or from `ASKED` on.
-    pub atom: Atom,
+    pub atom: Atom<W>,
     /// Its shared variables, as bits.
     pub shared: u64,
     /// Pairs of places with the same variable: bit 8 p + q for places p and q.
@@ -35,9 +35,9 @@ pub struct Sought {
 
 /// A question as that which covers.
 #[derive(Clone, Copy)]
-pub struct Pattern {
+pub struct Pattern<const W: usize> {
     count: usize,
-    atoms: [Sought; MOST_ATOMS],
+    atoms: [Sought<W>; MOST_ATOMS],
     /// For each shared variable the atoms in which it stands, as bits.
     pub standing: [u16; MOST_SHARED],
     /// The shared variables.
@@ -45,7 +45,7 @@ pub struct Pattern {
     /// The atoms that have shared variables, as bits.
     pub tied: u16,
     /// The answer record, which must go to the other's.
-    answer: Atom,
+    answer: Atom<W>,
     /// Its relations as bits.
     pub relations: u64,
     /// The marks of its atoms and its answer record. Those of a spare atom are also those of
@@ -53,8 +53,8 @@ pub struct Pattern {
     pub marks: u64,
 }
 
-impl Sought {
-    const NOTHING: Sought = Sought {
+impl<const W: usize> Sought<W> {
+    const NOTHING: Sought<W> = Sought {
         atom: Atom::NONE,
         shared: 0,
         twins: 0,
@@ -74,12 +74,12 @@ impl Sought {
     #[inline]
     pub fn place_of(&self, variable: usize) -> usize {
         let is_there = |&place: &usize| self.atom.place(place) as usize == variable;
-        (0..PLACES - 1).find(is_there).unwrap_or(PLACES - 1)
+        (0..W - 1).find(is_there).unwrap_or(W - 1)
     }
 }
 
 /// The pairs of places with the same variable.
-fn twins(atom: Atom) -> u64 {
+fn twins<const W: usize>(atom: Atom<W>) -> u64 {
     let mut twins = 0;
     for q in 1..atom.used() {
         let term = atom.place(q);
@@ -92,21 +92,21 @@ fn twins(atom: Atom) -> u64 {
 
 /// Whether the target has one term in both places of each pair.
 #[inline]
-fn are_twins(twins: u64, target: Atom) -> bool {
+fn are_twins<const W: usize>(twins: u64, target: Atom<W>) -> bool {
     bits(twins).all(|pair| target.place(pair / 8) == target.place(pair % 8))
 }
 
 /// The atoms that a pattern is made of, and in how many of them each variable stands. The
 /// answer record counts for two, so none of its variables is alone.
-struct Making<'a> {
-    atoms: &'a [Atom],
+struct Making<'a, const W: usize> {
+    atoms: &'a [Atom<W>],
     kept: u16,
     standing: [u8; FIRST_CONSTANT as usize],
 }
 
-impl Making<'_> {
+impl<const W: usize> Making<'_, W> {
     /// Counts an atom's variables in or out, each once.
-    fn count(&mut self, atom: Atom, by: i8) {
+    fn count(&mut self, atom: Atom<W>, by: i8) {
         for (place, term) in atom.terms().enumerate() {
             let before = (0..place).any(|earlier| atom.place(earlier) == term);
             if is_variable(term) && !before {
@@ -117,9 +117,9 @@ impl Making<'_> {
     }
 
     /// The bytes of an atom that are kept when all that stands elsewhere is kept.
-    fn held(&self, atom: Atom) -> u64 {
-        let mut held = !ALL_PLACES;
-        for place in 0..PLACES {
+    fn held(&self, atom: Atom<W>) -> u64 {
+        let mut held = !Atom::<W>::ALL_PLACES;
+        for place in 0..W {
             let term = atom.place(place);
             if !is_variable(term) || self.standing[term as usize] > 1 {
                 held |= byte_of(place);
@@ -148,8 +148,8 @@ impl Making<'_> {
     }
 }
 
-impl Pattern {
-    const EMPTY: Pattern = Pattern {
+impl<const W: usize> Pattern<W> {
+    const EMPTY: Pattern<W> = Pattern {
         count: 0,
         atoms: [Sought::NOTHING; MOST_ATOMS],
         standing: [0; MOST_SHARED],
@@ -161,7 +161,7 @@ impl Pattern {
     };
 
     /// The pattern of a question with this answer record, or none, and these atoms.
-    pub fn of(answer: Atom, atoms: &[Atom]) -> Pattern {
+    pub fn of(answer: Atom<W>, atoms: &[Atom<W>]) -> Pattern<W> {
         let relations = atoms.iter().fold(0, |all, atom| all | atom.relation_bit());
         let mut making = Making {
             atoms,
@@ -185,19 +185,19 @@ impl Pattern {
 
     /// The atoms to be placed.
     #[inline]
-    pub fn atoms(&self) -> &[Sought] {
+    pub fn atoms(&self) -> &[Sought<W>] {
         &self.atoms[..self.count]
     }
 
     /// Whether the answer record can go to this one.
     #[inline]
-    pub fn answer_goes_to(&self, answer: Atom) -> bool {
+    pub fn answer_goes_to(&self, answer: Atom<W>) -> bool {
         (self.answer.0 ^ answer.0) & self.answer.fixed() == 0
             && (self.answer.used() < 2 || are_twins(twins(self.answer), answer))
     }
 
     /// Adds the atoms that are kept, those with constants first: they refute most.
-    fn fill(&mut self, making: &Making) {
+    fn fill(&mut self, making: &Making<W>) {
         let mut numbers = [ALONE; FIRST_CONSTANT as usize];
         for (place, term) in self.answer.terms().enumerate() {
             if is_variable(term) {
@@ -221,7 +221,7 @@ impl Pattern {
     }
 
     /// Adds an atom, its variables numbered so.
-    fn add(&mut self, atom: Atom, numbers: &[u8; FIRST_CONSTANT as usize]) {
+    fn add(&mut self, atom: Atom<W>, numbers: &[u8; FIRST_CONSTANT as usize]) {
         let mut sought = Sought {
             atom,
             kind: atom.kind() as u16,

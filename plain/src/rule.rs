@@ -1,15 +1,15 @@
 //! A rule made ready to be met.
 
-use crate::atom::{byte_of, is_variable, Atom, RECORD, VARIABLES};
+use crate::atom::{byte_of, is_variable, record_length, Atom, VARIABLES};
 use crate::classes::{HELD, UNKNOWN};
 
 /// The most atoms of a body or a head.
 pub const RULE_ATOMS: usize = 4;
 
 /// A rule, its variables kept apart from the question's by being numbered after them.
-pub struct Rule {
-    body: [Atom; RULE_ATOMS],
-    head: [Atom; RULE_ATOMS],
+pub struct Rule<const W: usize> {
+    body: [Atom<W>; RULE_ATOMS],
+    head: [Atom<W>; RULE_ATOMS],
     bodies: usize,
     heads: usize,
     /// The body's relations as bits.
@@ -26,11 +26,11 @@ pub struct Rule {
     pub said: [u8; VARIABLES],
 }
 
-impl Rule {
+impl<const W: usize> Rule<W> {
     /// The rule with the body and the head in these bytes. Of equal head atoms only the first
     /// is kept: what is sent to another gives the same classes, and so rewritings that were
     /// seen before and are covered ever after.
-    pub fn of(body: &[u8], head: &[u8]) -> Rule {
+    pub fn of(body: &[u8], head: &[u8]) -> Rule<W> {
         let mut rule = Rule {
             body: [Atom::NONE; RULE_ATOMS],
             head: [Atom::NONE; RULE_ATOMS],
@@ -43,14 +43,14 @@ impl Rule {
             has_constants: false,
             said: [0; VARIABLES],
         };
-        for atom in body.chunks_exact(RECORD) {
+        for atom in body.chunks_exact(record_length(W)) {
             rule.body[rule.bodies] = Atom::of(atom).moved(VARIABLES);
             rule.relations |= rule.body[rule.bodies].relation_bit();
             rule.bodies += 1;
         }
         for atom in head
-            .chunks_exact(RECORD)
-            .map(|atom| Atom::of(atom).moved(VARIABLES))
+            .chunks_exact(record_length(W))
+            .map(|atom| Atom::<W>::of(atom).moved(VARIABLES))
         {
             if !rule.head().contains(&atom) {
                 rule.head[rule.heads] = atom;
@@ -63,12 +63,12 @@ impl Rule {
     }
 
     /// The body's atoms.
-    pub fn body(&self) -> &[Atom] {
+    pub fn body(&self) -> &[Atom<W>] {
         &self.body[..self.bodies]
     }
 
     /// The head's atoms.
-    pub fn head(&self) -> &[Atom] {
+    pub fn head(&self) -> &[Atom<W>] {
         &self.head[..self.heads]
     }
 

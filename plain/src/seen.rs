@@ -32,7 +32,7 @@ impl State {
 
     /// Adds an atom.
     #[inline]
-    pub fn push(&mut self, atom: Atom) {
+    pub fn push<const W: usize>(&mut self, atom: Atom<W>) {
         self.words[self.count] = atom.0;
         self.count += 1;
     }

@@ -1,6 +1,6 @@
 //! The union as written.
 
-use crate::atom::RECORD;
+use crate::atom::{record_length, SIX};
 use crate::explore::Explored;
 use crate::form::{Form, MEMBER_ATOMS};
 use crate::members::MOST_MEMBERS;
@@ -8,14 +8,14 @@ use crate::members::MOST_MEMBERS;
 /// The length of the four words before the members.
 const UNION_HEADER: usize = 8;
 
-/// The most bytes of a member: count, answer record, atoms.
-const MEMBER: usize = 1 + RECORD * (1 + MEMBER_ATOMS);
+/// The most bytes of a member: count, answer record, atoms, all of six places.
+const MEMBER: usize = 1 + record_length(SIX) * (1 + MEMBER_ATOMS);
 
 /// The room that the output must have.
 pub const OUTPUT_ROOM: usize = UNION_HEADER + MOST_MEMBERS * MEMBER;
 
 /// Writes the union at the front of the output, which has room; its length.
-pub fn write(run: &Explored, out: &mut [u8]) -> usize {
+pub fn write<const W: usize>(run: &Explored<W>, out: &mut [u8]) -> usize {
     let mut end = UNION_HEADER;
     for form in run.members.forms() {
         end += write_member(form, &mut out[end..]);
@@ -28,13 +28,13 @@ pub fn write(run: &Explored, out: &mut [u8]) -> usize {
 }
 
 /// Writes a member: its count, its answer record if it has one, its atoms; its length.
-fn write_member(form: &Form, out: &mut [u8]) -> usize {
+fn write_member<const W: usize>(form: &Form<W>, out: &mut [u8]) -> usize {
     out[0] = form.count as u8;
     let answer = Some(&form.answer).filter(|answer| answer.used() > 0);
     let mut end = 1;
     for atom in answer.into_iter().chain(form.atoms()) {
-        out[end..end + RECORD].copy_from_slice(&atom.record());
-        end += RECORD;
+        atom.write(&mut out[end..]);
+        end += record_length(W);
     }
     end
 }

@@ -2,7 +2,7 @@
 
 mod common;
 
-use common::{kept_books, same, same_pair};
+use common::{kept_books, same, same_copies, same_pair};
 use second::random::Random;
 use second::{generate, limits, pairs};
 
@@ -25,6 +25,17 @@ fn generated_books_are_alike() {
     for i in 0..20_000 {
         same(&format!("generated {i}"), &generate::next(&mut random));
     }
+}
+
+#[test]
+fn copies_and_the_other_forms_are_alike() {
+    let mut random = Random::new(30_000);
+    let mut books = kept_books();
+    books.extend(limits::books());
+    books.extend((0..8_000).map(|i| (format!("generated {i}"), generate::next(&mut random))));
+    books
+        .iter()
+        .for_each(|(name, book)| same_copies(name, book));
 }
 
 #[test]

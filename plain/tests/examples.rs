@@ -21,7 +21,10 @@ fn members(name: &str) -> u8 {
 
 /// Whether the first record covers the second, and the converse.
 fn both(first: &[u8], second: &[u8]) -> (u8, u8) {
-    (plain::covers(first, second), plain::covers(second, first))
+    (
+        plain::covers(first, second, 4),
+        plain::covers(second, first, 4),
+    )
 }
 
 #[test]
@@ -86,7 +89,7 @@ fn answers_at_the_desk() {
     let plain = |term: u8| [1, 0, term, 255, 255, 255];
     assert_eq!(both(&asked(0), &asked(128)), (1, 0));
     assert_eq!(both(&plain(0), &asked(128)), (0, 0));
-    assert_eq!(plain::kept(&asked(0), &asked(7)), 1);
-    assert_eq!(plain::kept(&[], &asked(7)), 0);
+    assert_eq!(plain::kept(&asked(0), &asked(7), 4), 1);
+    assert_eq!(plain::kept(&[], &asked(7), 4), 0);
     assert_eq!(both(&[12], &asked(7)), (2, 3));
 }

@@ -37,7 +37,7 @@ fn crowded_books_are_alike() {
 #[test]
 fn rings_on_dense_graphs_end_quickly() {
     for (name, first, second) in shapes::rings() {
-        let said = within(SECONDS, &name, || plain::covers(&first, &second));
+        let said = within(SECONDS, &name, || plain::covers(&first, &second, 4));
         assert_eq!(said, shapes::is_even(&first) as u8, "{name}");
     }
 }
@@ -50,7 +50,7 @@ fn many_atoms_of_one_relation_end_quickly() {
         .collect();
     within(SECONDS, "20,000 dense pairs", || {
         for (first, second) in &pairs {
-            assert!(plain::covers(first, second) < 2);
+            assert!(plain::covers(first, second, 4) < 2);
         }
     });
 }
@@ -58,7 +58,7 @@ fn many_atoms_of_one_relation_end_quickly() {
 #[test]
 fn fewer_atoms_of_one_relation_are_alike() {
     let mut random = Random::new(5);
-    (0..20_000).for_each(|_| same_pair(&shapes::dense(&mut random, 5)));
+    (0..20_000).for_each(|_| same_pair(&shapes::pair(shapes::dense(&mut random, 5))));
 }
 
 /// A part that cannot be placed stands behind nine atoms with eleven candidates each.
@@ -69,9 +69,9 @@ fn a_last_part_that_cannot_be_placed() {
     first.extend([0, 60, 61, 255, 255, 0, 61, 60, 255, 255]);
     let second: Vec<u8> = (0..11).flat_map(loose).collect();
     let (first, second) = ([&[11], &first[..]].concat(), [&[11], &second[..]].concat());
-    let said = within(SECONDS, "loose", || plain::covers(&first, &second));
+    let said = within(SECONDS, "loose", || plain::covers(&first, &second, 4));
     assert_eq!(said, 0);
-    assert_eq!(plain::covers(&second, &first), 1);
-    assert_eq!(plain::kept(&first, &second), 2);
-    assert_eq!(plain::kept(&second, &first), 1);
+    assert_eq!(plain::covers(&second, &first, 4), 1);
+    assert_eq!(plain::kept(&first, &second, 4), 2);
+    assert_eq!(plain::kept(&second, &first, 4), 1);
 }

@@ -38,8 +38,12 @@
 //! # Ok::<(), rauntiko::Refusal>(())
 //! ```
 //!
+//! A book has one of two forms, with room for four or for six places in an atom; [`to_new`] and
+//! [`to_old`] copy it from one to the other. Both run alike.
+//!
 //! [`covers`], [`kept`] and [`keep`] are the search desk's: which of two member records covers
-//! the other, and by which [`Map`]. [`raw`] has the routines with their plain numbers.
+//! the other, and by which [`Map`]; they are told the [`Width`] of the records. [`raw`] has the
+//! routines with their plain numbers.
 //!
 //! Building asks the Rattle kit's `rt`, which must be on the PATH, to prove the routines and to
 //! make an archive of them: some minutes the first time, then seconds. Where the variable
@@ -48,6 +52,7 @@
 #![deny(unsafe_code)]
 #![warn(missing_docs)]
 
+mod copying;
 mod desk;
 mod map;
 mod print;
@@ -56,21 +61,21 @@ mod refusal;
 #[allow(unsafe_code)]
 mod sys;
 mod union;
+mod width;
 
+pub use copying::{to_new, to_old};
 pub use desk::{covers, keep, kept, Kept, Malformed};
 pub use map::Map;
 pub use refusal::Refusal;
 pub use union::{Atom, Member, Members, Term, Terms, Union};
+pub use width::Width;
 
 /// Rewrites a book's question: the whole union, or why there is none.
 pub fn rewrite(book: &[u8]) -> Result<Union, Refusal> {
     let mut out = vec![0; raw::OUTPUT_ROOM];
     let answer = raw::run(book, &mut out);
-    match answer.number {
-        0 => {
-            out.truncate(answer.place);
-            Ok(Union::written(out))
-        }
-        number => Err(Refusal::of(number, answer.place).expect("`run` gives no other number")),
-    }
+    answer.done().map(|length| {
+        out.truncate(length);
+        Union::written(out, Width::of_book(book))
+    })
 }

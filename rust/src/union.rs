@@ -1,7 +1,6 @@
 //! A union that can be walked: members, atoms, terms.
 
-/// The bytes of an atom or an answer record.
-const ATOM: usize = 5;
+use crate::width::Width;
 
 /// The relation byte of an answer record.
 const ANSWER: u8 = 255;
@@ -19,12 +18,18 @@ const HEADER: usize = 8;
 #[derive(Clone, Debug, PartialEq, Eq)]
 pub struct Union {
     bytes: Vec<u8>,
+    width: Width,
 }
 
 impl Union {
-    /// The union in these bytes, which a complete run wrote.
-    pub(crate) fn written(bytes: Vec<u8>) -> Union {
-        Union { bytes }
+    /// The union in these bytes, which a complete run of a book of this width wrote.
+    pub(crate) fn written(bytes: Vec<u8>, width: Width) -> Union {
+        Union { bytes, width }
+    }
+
+    /// How many places its atoms have room for: as many as the book's.
+    pub fn width(&self) -> Width {
+        self.width
     }
 
     /// The header word of this number.
@@ -42,6 +47,7 @@ impl Union {
         Members {
             left: self.word(0),
             rest: &self.bytes[HEADER..],
+            width: self.width,
         }
     }
 
@@ -56,6 +62,7 @@ impl Union {
 pub struct Members<'u> {
     left: usize,
     rest: &'u [u8],
+    width: Width,
 }
 
 impl<'u> Iterator for Members<'u> {
@@ -67,9 +74,12 @@ impl<'u> Iterator for Members<'u> {
         // is at most 8: only an answer record begins with 255.
         let answered = self.rest.get(1) == Some(&ANSWER);
         let records = usize::from(self.rest[0]) + usize::from(answered);
-        let (record, rest) = self.rest.split_at(1 + ATOM * records);
+        let (record, rest) = self.rest.split_at(1 + self.width.atom() * records);
         self.rest = rest;
-        Some(Member { record })
+        Some(Member {
+            record,
+            width: self.width,
+        })
     }
 
     fn size_hint(&self) -> (usize, Option<usize>) {
@@ -83,6 +93,7 @@ impl ExactSizeIterator for Members<'_> {}
 #[derive(Clone, Copy, Debug, PartialEq, Eq)]
 pub struct Member<'u> {
     record: &'u [u8],
+    width: Width,
 }
 
 impl<'u> Member<'u> {
@@ -95,10 +106,11 @@ impl<'u> Member<'u> {
     /// The atoms. A member without any holds in every ledger, the empty one too.
     pub fn atoms(&self) -> impl ExactSizeIterator<Item = Atom<'u>> + Clone {
         let (_, atoms) = self.parts();
-        atoms.chunks_exact(ATOM).map(|bytes| Atom { bytes })
+        let atom = self.width.atom();
+        atoms.chunks_exact(atom).map(|bytes| Atom { bytes })
     }
 
-    /// The member as a record that the search desk takes.
+    /// The member as a record that the search desk takes, with the union's width.
     pub fn as_record(&self) -> &'u [u8] {
         self.record
     }
@@ -107,11 +119,11 @@ impl<'u> Member<'u> {
     fn parts(&self) -> (&'u [u8], &'u [u8]) {
         let records = &self.record[1..];
         let answered = records.first() == Some(&ANSWER);
-        records.split_at(if answered { ATOM } else { 0 })
+        records.split_at(if answered { self.width.atom() } else { 0 })
     }
 }
 
-/// An atom: a relation with one to four terms.
+/// An atom: a relation with one to four terms, in a union of width six one to six.
 #[derive(Clone, Copy, Debug, PartialEq, Eq)]
 pub struct Atom<'u> {
     bytes: &'u [u8],

@@ -3,6 +3,7 @@
 //! of them is what the second program prints.
 
 use rauntiko::{raw, rewrite, Term};
+use second::layout::width_of;
 use second::random::Random;
 use second::{generate, print, term, union};
 use std::path::Path;
@@ -29,6 +30,9 @@ fn books() -> Vec<(String, Vec<u8>)> {
     books
 }
 
+/// More room than is asked for.
+const ROOM: usize = raw::OUTPUT_ROOM + 48;
+
 /// An output in which every change can be seen.
 fn lent(room: usize) -> Vec<u8> {
     (0..room).map(|i| (i % 251) as u8).collect()
@@ -37,14 +41,14 @@ fn lent(room: usize) -> Vec<u8> {
 #[test]
 fn both_sides_give_the_same_numbers_and_bytes() {
     for (name, book) in books() {
-        let (mut out, mut other) = (lent(3000), lent(3000));
+        let (mut out, mut other) = (lent(ROOM), lent(ROOM));
         let answer = raw::run(&book, &mut out);
         let theirs = second::run::run(&book, &mut other);
         let numbers = (answer.number as usize, answer.place);
         assert_eq!(numbers, (theirs.number, theirs.place), "{name}");
         assert_eq!(out, other, "{name}");
         let written = if answer.number == 0 { answer.place } else { 0 };
-        assert_eq!(out[written..], lent(3000)[written..], "{name}");
+        assert_eq!(out[written..], lent(ROOM)[written..], "{name}");
     }
 }
 
@@ -100,7 +104,7 @@ fn a_union_is_walked_to_every_term() {
         let Ok(found) = rewrite(&book) else {
             continue;
         };
-        let (members, explored) = union::read(found.as_bytes());
+        let (members, explored) = union::read(found.as_bytes(), width_of(&book));
         assert_eq!(found.explored(), explored, "{name}");
         assert_eq!(found.members().len(), members.len(), "{name}");
         assert!(found.members().map(question).eq(members), "{name}");

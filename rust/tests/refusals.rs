@@ -8,7 +8,7 @@ use std::collections::BTreeSet;
 
 #[test]
 fn every_number_has_a_refusal_with_its_place() {
-    for number in 1..=11 {
+    for number in (1..=11).chain([13]) {
         let refusal = Refusal::of(number, 345).unwrap();
         assert_eq!((refusal.number(), refusal.place()), (number, 345));
         let text = refusal.to_string();
@@ -19,6 +19,7 @@ fn every_number_has_a_refusal_with_its_place() {
     }
     assert_eq!(Refusal::of(0, 48), None);
     assert_eq!(Refusal::of(12, 0), None);
+    assert_eq!(Refusal::of(14, 0), None);
 }
 
 #[test]
@@ -43,6 +44,7 @@ fn a_refusal_is_an_error() {
     let told = asked(&[]).unwrap_err().to_string();
     assert_eq!(
         told,
-        "refusal 2: the book has under 18 bytes, in its header; give all of the book"
+        "refusal 2: the book has under 18 bytes, in the new form under 20, in its header; \
+         give all of the book"
     );
 }

@@ -1,14 +1,17 @@
 //! The stored book: reading it and writing it. Where its parts stand is in `layout`, what
 //! is refused in `refuse`.
 
-use crate::layout::{self, Header, RuleAt, ANSWER, ATOM, FIRST_CONSTANT, HEADER, UNUSED};
+use crate::layout::{self, Header, RuleAt, ANSWER, FIRST_CONSTANT, UNUSED};
 use crate::refuse::{faults, least, Fault};
 use crate::seen::{Behaviour, Seen};
 use crate::term::{Atom, Question, Rule, Term};
+use crate::width::Width;
 
 /// A sound book.
 #[derive(Clone, Debug, PartialEq, Eq)]
 pub struct Book {
+    /// In which form it is written.
+    pub width: Width,
     /// The number of places of each relation.
     pub relations: Vec<usize>,
     pub constants: usize,
@@ -37,40 +40,45 @@ pub fn read(bytes: &[u8], seen: &mut Seen) -> Result<Book, Fault> {
 /// The book that these bytes hold, given that nothing is wrong with them.
 fn decode(bytes: &[u8]) -> Book {
     let header = Header::of(bytes).unwrap();
-    let places = &bytes[HEADER..HEADER + header.relations];
+    let width = header.width;
+    let places = &bytes[width.header()..header.rules_begin()];
     let rules = layout::rules(&header, bytes).found;
     Book {
+        width,
         relations: places.iter().map(|&places| places as usize).collect(),
         constants: header.constants,
-        rules: rules.iter().map(|rule| decode_rule(bytes, rule)).collect(),
-        question: decode_question(&bytes[header.question_at..]),
+        rules: rules
+            .iter()
+            .map(|rule| decode_rule(bytes, rule, width))
+            .collect(),
+        question: decode_question(&bytes[header.question_at..], width),
         allowed: header.allowed,
     }
 }
 
 /// The rule that stands there.
-fn decode_rule(bytes: &[u8], rule: &RuleAt) -> Rule {
-    let atom = |&at: &usize| decode_atom(&bytes[at..at + ATOM]);
+fn decode_rule(bytes: &[u8], rule: &RuleAt, width: Width) -> Rule {
+    let atom = |&at: &usize| decode_atom(&bytes[at..at + width.atom()]);
     Rule {
         body: rule.body.iter().map(atom).collect(),
         head: rule.head.iter().map(atom).collect(),
     }
 }
 
-/// The question that these bytes hold, five for each atom and for the answer record, which
-/// stands first if there is one. A sound question has no relation 255.
-pub fn decode_question(bytes: &[u8]) -> Question {
+/// The question that these bytes hold, five or seven for each atom and for the answer record,
+/// which stands first if there is one. A sound question has no relation 255.
+pub fn decode_question(bytes: &[u8], width: Width) -> Question {
     let (answer, atoms) = match bytes.first() == Some(&ANSWER) {
-        true => bytes.split_at(ATOM),
+        true => bytes.split_at(width.atom()),
         false => bytes.split_at(0),
     };
     Question {
-        answer: answer.chunks(ATOM).flat_map(decode_terms).collect(),
-        atoms: atoms.chunks(ATOM).map(decode_atom).collect(),
+        answer: answer.chunks(width.atom()).flat_map(decode_terms).collect(),
+        atoms: atoms.chunks(width.atom()).map(decode_atom).collect(),
     }
 }
 
-/// The atom that five bytes hold.
+/// The atom that these bytes hold.
 fn decode_atom(bytes: &[u8]) -> Atom {
     Atom::new(bytes[0] as usize, decode_terms(bytes))
 }
@@ -98,23 +106,24 @@ pub fn encode_term(term: Term) -> u8 {
 }
 
 /// The bytes of a question: the answer record if there is one, then the atoms.
-pub fn encode_question(question: &Question) -> Vec<u8> {
+pub fn encode_question(question: &Question, width: Width) -> Vec<u8> {
     let mut bytes = Vec::new();
     if question.is_answered() {
-        bytes.extend(encode(ANSWER, &question.answer));
+        bytes.extend(encode(ANSWER, &question.answer, width));
     }
-    bytes.extend(question.atoms.iter().flat_map(encode_atom));
+    let atoms = question.atoms.iter();
+    bytes.extend(atoms.flat_map(|atom| encode_atom(atom, width)));
     bytes
 }
 
-/// The five bytes of an atom.
-fn encode_atom(atom: &Atom) -> [u8; ATOM] {
-    encode(atom.relation as u8, &atom.terms)
+/// The bytes of an atom.
+fn encode_atom(atom: &Atom, width: Width) -> Vec<u8> {
+    encode(atom.relation as u8, &atom.terms, width)
 }
 
-/// A relation byte and four places, these terms in the first.
-fn encode(relation: u8, terms: &[Term]) -> [u8; ATOM] {
-    let mut bytes = [UNUSED; ATOM];
+/// A relation byte and the places of this width, these terms in the first.
+fn encode(relation: u8, terms: &[Term], width: Width) -> Vec<u8> {
+    let mut bytes = vec![UNUSED; width.atom()];
     bytes[0] = relation;
     for (byte, term) in bytes[1..].iter_mut().zip(terms) {
         *byte = encode_term(*term);
@@ -124,18 +133,20 @@ fn encode(relation: u8, terms: &[Term]) -> [u8; ATOM] {
 
 /// The bytes of a rule: "two bytes, the body's and the head's atom counts, then body
 /// atoms, then head atoms".
-fn encode_rule(rule: &Rule) -> Vec<u8> {
+fn encode_rule(rule: &Rule, width: Width) -> Vec<u8> {
     let mut bytes = vec![rule.body.len() as u8, rule.head.len() as u8];
     let atoms = rule.body.iter().chain(&rule.head);
-    atoms.for_each(|atom| bytes.extend(encode_atom(atom)));
+    atoms.for_each(|atom| bytes.extend(encode_atom(atom, width)));
     bytes
 }
 
 /// The bytes of a book.
 pub fn write(book: &Book) -> Vec<u8> {
-    let rules: Vec<u8> = book.rules.iter().flat_map(encode_rule).collect();
-    let question = encode_question(&book.question);
-    let rules_at = HEADER + book.relations.len();
+    let width = book.width;
+    let rules = book.rules.iter().flat_map(|rule| encode_rule(rule, width));
+    let rules: Vec<u8> = rules.collect();
+    let question = encode_question(&book.question, width);
+    let rules_at = width.header() + book.relations.len();
     let question_at = rules_at + rules.len();
     let words = [
         book.relations.len(),
@@ -143,14 +154,15 @@ pub fn write(book: &Book) -> Vec<u8> {
         book.rules.len(),
         book.question.atoms.len(),
         book.allowed,
-        HEADER,
+        width.header(),
         rules_at,
         question_at,
         question_at + question.len(),
+        width.places(),
     ];
     let mut bytes: Vec<u8> = Vec::new();
-    for word in words {
-        bytes.extend((word as u16).to_le_bytes());
+    for word in &words[..width.words()] {
+        bytes.extend((*word as u16).to_le_bytes());
     }
     bytes.extend(book.relations.iter().map(|&places| places as u8));
     bytes.extend(rules);
@@ -190,7 +202,13 @@ fn mark_limits(book: &Book, length: usize, seen: &mut Seen) {
     seen.mark_if(book.allowed == 1, Behaviour::Allowed1);
     seen.mark_if(book.allowed == 1000, Behaviour::Allowed1000);
     let answered = book.question.is_answered();
-    seen.mark_if(!answered && length == 1466, Behaviour::LargestBoolean);
-    seen.mark_if(length == 1471, Behaviour::LargestBook);
-    seen.mark_if(length == 24, Behaviour::SmallestBook);
+    let of = |width: Width, bytes: usize| book.width == width && length == bytes;
+    seen.mark_if(
+        of(Width::Four, 1466) && !answered,
+        Behaviour::LargestBoolean,
+    );
+    seen.mark_if(of(Width::Four, 1471), Behaviour::LargestOld);
+    seen.mark_if(of(Width::Six, 2003), Behaviour::LargestBook);
+    seen.mark_if(of(Width::Four, 24), Behaviour::SmallestBook);
+    seen.mark_if(of(Width::Six, 28), Behaviour::SmallestNew);
 }

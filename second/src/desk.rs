@@ -2,15 +2,19 @@
 
 use crate::book::{decode_question, encode_term};
 use crate::cover::{first_map, Map};
-use crate::layout::{ANSWER, ATOM, FIRST_CONSTANT, UNUSED};
+use crate::layout::{ANSWER, FIRST_CONSTANT, UNUSED};
 use crate::term::Question;
+use crate::width::{Width, ANSWER_PLACES};
 
 /// A map in bytes: byte v is the byte of the term that variable v goes to, 255 where v does
 /// not stand in the record that covers.
-pub type Bytes = [u8; 64];
+pub type Bytes = [u8; MAP];
+
+/// The bytes of a map at both widths.
+pub const MAP: usize = 66;
 
 /// The map where there is none.
-pub const NO_MAP: Bytes = [UNUSED; 64];
+pub const NO_MAP: Bytes = [UNUSED; MAP];
 
 /// What covering gives: "0 no, 1 yes, 2 first malformed, 3 second malformed; 2 wins." And the
 /// first map of the first record to the second, if it is 1.
@@ -29,16 +33,17 @@ pub struct Kept {
     pub map: Bytes,
 }
 
-/// Whether the first record covers the second.
-pub fn covers(first: &[u8], second: &[u8]) -> Covered {
+/// Whether the first record covers the second. "Covering and evaluating are told the width":
+/// with another than 4 or 6 every record is malformed.
+pub fn covers(first: &[u8], second: &[u8], width: usize) -> Covered {
     let without_map = |number| Covered {
         number,
         map: NO_MAP,
     };
-    let Some(first) = question_of(first) else {
+    let Some(first) = question_of(first, width) else {
         return without_map(2);
     };
-    let Some(second) = question_of(second) else {
+    let Some(second) = question_of(second, width) else {
         return without_map(3);
     };
     match first_map(&first, &second) {
@@ -51,8 +56,9 @@ pub fn covers(first: &[u8], second: &[u8]) -> Covered {
 }
 
 /// Which of the two covers the other.
-pub fn kept(first: &[u8], second: &[u8]) -> Kept {
-    let (there, back) = (covers(first, second), covers(second, first));
+pub fn kept(first: &[u8], second: &[u8], width: usize) -> Kept {
+    let there = covers(first, second, width);
+    let back = covers(second, first, width);
     let (which, map) = match (there.number, back.number) {
         (1, _) => (1, there.map),
         (_, 1) => (2, back.map),
@@ -72,8 +78,8 @@ fn bytes_of(map: &Map) -> Bytes {
 
 /// The record that covers the other, as a part of its own buffer. "Malformed or incomparable
 /// ones give the empty part at the first's start."
-pub fn keep<'r>(first: &'r [u8], second: &'r [u8]) -> &'r [u8] {
-    match kept(first, second).which {
+pub fn keep<'r>(first: &'r [u8], second: &'r [u8], width: usize) -> &'r [u8] {
+    match kept(first, second, width).which {
         1 => first,
         2 => second,
         _ => &first[..0],
@@ -83,21 +89,26 @@ pub fn keep<'r>(first: &'r [u8], second: &'r [u8]) -> &'r [u8] {
 /// The question of a record: "1 to 11 atoms and exactly fitting length", now "0 to 11". It
 /// has an answer record, which is not counted, exactly if its first atom's relation byte is
 /// 255. The count 0 alone is sound.
-pub fn question_of(record: &[u8]) -> Option<Question> {
+pub fn question_of(record: &[u8], width: usize) -> Option<Question> {
+    let width = Width::of(width)?;
     let (&count, atoms) = record.split_first()?;
     let answers = (atoms.first() == Some(&ANSWER)) as usize;
-    let fits = count <= 11 && atoms.len() == ATOM * (count as usize + answers);
-    let mut records = atoms.chunks(ATOM);
+    let fits = count <= 11 && atoms.len() == width.atom() * (count as usize + answers);
+    let mut records = atoms.chunks(width.atom());
+    let mut answer = records.by_ref().take(answers);
     let sound = fits
-        && records.by_ref().take(answers).all(has_places)
-        && records.all(|atom| atom[0] < 64 && has_places(atom));
-    sound.then(|| decode_question(atoms))
+        && answer.all(|record| has_places(record, ANSWER_PLACES, width))
+        && records.all(|atom| atom[0] < 64 && has_places(atom, width.places(), width));
+    sound.then(|| decode_question(atoms, width))
 }
 
-/// "first one to four places used with 0 to 63 or 128 to 254, the rest 255"
-fn has_places(bytes: &[u8]) -> bool {
+/// "first one to four places used with 0 to 63 or 128 to 254, the rest 255"; of width 6, one to
+/// six and 0 to 65. So many places at most.
+fn has_places(bytes: &[u8], most: usize, width: Width) -> bool {
     let places = &bytes[1..];
-    let is_used = |byte: &u8| *byte < 64 || (FIRST_CONSTANT..UNUSED).contains(byte);
+    let is_used = |byte: &u8| {
+        (*byte as usize) < width.desk_variables() || (FIRST_CONSTANT..UNUSED).contains(byte)
+    };
     let used = places.iter().take_while(|byte| is_used(byte)).count();
-    used >= 1 && places[used..].iter().all(|&byte| byte == UNUSED)
+    (1..=most).contains(&used) && places[used..].iter().all(|&byte| byte == UNUSED)
 }

@@ -5,6 +5,7 @@ use crate::damage;
 use crate::random::Random;
 use crate::shapes::{Shape, SHAPES};
 use crate::term::{variables, Atom, Question, Rule, Term};
+use crate::width::{Width, WIDTHS};
 
 /// The bytes of the next book: in three of four cases a sound one.
 pub fn next(random: &mut Random) -> Vec<u8> {
@@ -18,18 +19,33 @@ pub fn next(random: &mut Random) -> Vec<u8> {
 /// A sound book of some shape.
 pub fn sound(random: &mut Random) -> Book {
     let shape = *random.one_of(SHAPES);
-    shaped(shape, random)
+    let width = *random.one_of(&WIDTHS);
+    shaped(shape, width, random)
 }
 
-/// A sound book of this shape.
-pub fn shaped(shape: &'static Shape, random: &mut Random) -> Book {
+/// In a hundred: relations of a new book that have five or six places.
+const WIDER: usize = 15;
+
+/// In a hundred: rules and questions of a new book whose variables are numbered further up.
+const NUMBERED_UP: usize = 15;
+
+/// A sound book of this shape and width. One in five of the new books has no wider relation.
+pub fn shaped(shape: &'static Shape, width: Width, random: &mut Random) -> Book {
     let many = |random: &mut Random, (least, most): (usize, usize)| random.between(least, most);
+    let wider = match width == Width::Six && random.percent(80) {
+        true => WIDER,
+        false => 0,
+    };
     let relations: Vec<usize> = (0..many(random, shape.relations))
-        .map(|_| *random.one_of(shape.places))
+        .map(|_| match random.percent(wider) {
+            true => random.between(5, 6),
+            false => *random.one_of(shape.places),
+        })
         .collect();
     let constants = many(random, shape.constants);
     let mut making = Making {
         shape,
+        width,
         relations,
         constants,
         random,
@@ -43,6 +59,7 @@ pub fn shaped(shape: &'static Shape, random: &mut Random) -> Book {
         .random
         .one_of(&[1, 2, 3, 5, 10, 20, 60, 100, 1000, 1000]);
     Book {
+        width,
         relations: making.relations,
         constants,
         rules,
@@ -57,6 +74,7 @@ const ANSWERED: usize = 50;
 /// A book being made.
 struct Making<'r> {
     shape: &'static Shape,
+    width: Width,
     relations: Vec<usize>,
     constants: usize,
     random: &'r mut Random,
@@ -76,10 +94,28 @@ impl Making<'_> {
         };
         let head = *self.random.one_of(self.shape.head);
         let seen = self.random.between(1, variables);
-        Rule {
+        let mut rule = Rule {
             body: self.atoms(body, seen, in_body, &of_body),
             head: self.atoms(head, variables, in_head, &of_head),
+        };
+        self.number_up(&mut [&mut rule.body, &mut rule.head]);
+        rule
+    }
+
+    /// Now and then, in a new book, numbers all variables of a rule or a question further up.
+    fn number_up(&mut self, conjunctions: &mut [&mut Vec<Atom>]) {
+        if self.width == Width::Four || !self.random.percent(NUMBERED_UP) {
+            return;
         }
+        let found = conjunctions.iter().flat_map(|atoms| variables(atoms)).max();
+        let most = self.width.variables() - 1 - found.unwrap_or(0);
+        let by = self.random.between(0, most);
+        let up = |term| match term {
+            Term::Variable(v) => Term::Variable(v + by),
+            constant => constant,
+        };
+        let atoms = conjunctions.iter_mut().flat_map(|atoms| atoms.iter_mut());
+        atoms.for_each(|atom| *atom = atom.map(up));
     }
 
     /// The relations for the body and the head of a rule: any, or in a layered book later
@@ -136,6 +172,7 @@ impl Making<'_> {
             atoms.extend(self.atoms(1, variables, self.shape.constants_in.2, &asked));
         }
         self.repeat(&mut atoms);
+        self.number_up(&mut [&mut atoms]);
         atoms
     }
 

@@ -2,9 +2,10 @@
 
 use crate::cover::{self, Map};
 use crate::desk::{covers, question_of};
-use crate::layout::{ANSWER, ATOM, UNUSED};
+use crate::layout::{ANSWER, UNUSED};
 use crate::pairs::Pair;
-use crate::term::Question;
+use crate::term::{occurs, Question};
+use crate::width::Width;
 
 /// What a pair can be: in words, and whether one is such.
 pub type Kind = (&'static str, fn(&Judged) -> bool);
@@ -93,13 +94,13 @@ pub const KINDS: &[Kind] = &[
     }),
     (
         "malformed: count 0, an answer record that does not fit",
-        |p| p.is_no_always() && p.is_no_answered() && p.first.len() != 1 + ATOM,
+        |p| p.is_no_always() && p.is_no_answered() && p.first.len() != 1 + p.atom(),
     ),
     ("malformed: count 0 and a bad answer record", |p| {
-        p.is_no_always() && p.is_no_answered() && p.first.len() == 1 + ATOM
+        p.is_no_always() && p.is_no_answered() && p.first.len() == 1 + p.atom()
     }),
     ("malformed: an answer record, as long as without one", |p| {
-        p.is_no_answered() && p.first.len() == 1 + ATOM * p.first[0] as usize
+        p.is_no_answered() && p.first.len() == 1 + p.atom() * p.first[0] as usize
     }),
     ("malformed: an answer record, no place used", |p| {
         p.is_no_answered() && p.first.get(2) == Some(&UNUSED)
@@ -108,14 +109,57 @@ pub const KINDS: &[Kind] = &[
         "malformed: an answer record, a place unused before a used one",
         |p| {
             let gap = |places: &[u8]| places[0] < 64 && places[1] == UNUSED && places[2] != UNUSED;
-            p.is_no_answered() && p.first.get(2..1 + ATOM).is_some_and(gap)
+            p.is_no_answered() && p.first.get(2..6).is_some_and(gap)
         },
     ),
     ("malformed: relation byte 255 after the first", |p| {
-        let mut later = p.first.iter().skip(1).step_by(ATOM).skip(1);
+        let mut later = p.first.iter().skip(1).step_by(p.atom()).skip(1);
         p.both.0 == 2 && later.any(|relation| *relation == ANSWER)
     }),
+    ("width 4, covered", |p| p.is_covered_of(Width::Four)),
+    ("width 6, covered", |p| p.is_covered_of(Width::Six)),
+    ("width 6, covered by atoms of six places", |p| {
+        p.is_covered_of(Width::Six) && p.is_first(|a| has_wide(a, 6))
+    }),
+    ("width 6, covered by atoms of five places", |p| {
+        p.is_covered_of(Width::Six) && p.is_first(|a| has_wide(a, 5))
+    }),
+    ("width 6, covered, variable 65 sent", |p| {
+        p.both.0 == 1 && p.is_first(|a| has_variable(a, 65))
+    }),
+    ("width 6, answers covered", |p| {
+        p.is_covered_of(Width::Six) && p.are_places(equal)
+    }),
+    ("malformed: another width than 4 or 6", |p| {
+        p.width.is_none()
+    }),
+    ("malformed: told the other width", |p| {
+        let other = p.width.map(|width| width.other().places());
+        let sound = |record| other.is_some_and(|w| question_of(record, w).is_some());
+        p.both == (2, 2) && sound(p.first) && p.first.len() > 1
+    }),
+    ("malformed: width 6, an answer's fifth place used", |p| {
+        p.is_no_six()
+            && p.first[1..6]
+                .iter()
+                .all(|&byte| byte < 66 || byte == ANSWER)
+            && p.first[6] != UNUSED
+    }),
+    (
+        "malformed: width 6, an answer's sixth place alone used",
+        |p| p.is_no_six() && p.first[6] == UNUSED && p.first[7] != UNUSED,
+    ),
 ];
+
+/// Whether an atom has so many places.
+fn has_wide(question: &Question, places: usize) -> bool {
+    question.atoms.iter().any(|atom| atom.terms.len() == places)
+}
+
+/// Whether this variable stands in an atom.
+fn has_variable(question: &Question, variable: usize) -> bool {
+    occurs(variable, &question.atoms)
+}
 
 /// Whether one record alone has answer places, of these numbers.
 fn one_alone(a: usize, b: usize) -> bool {
@@ -135,6 +179,8 @@ fn equal(a: usize, b: usize) -> bool {
 /// A pair with what there is to say about it.
 pub struct Judged<'p> {
     first: &'p [u8],
+    /// The width that is told, if it is one.
+    width: Option<Width>,
     /// What covering gives, and what it gives for the pair turned round.
     both: (u8, u8),
     /// The first's question, if its record is sound.
@@ -176,20 +222,43 @@ impl Maps {
 impl Judged<'_> {
     /// A pair, judged.
     pub fn new(pair: &Pair) -> Judged<'_> {
-        let (first, second) = pair;
+        let Pair {
+            width,
+            first,
+            second,
+        } = pair;
+        let covers = |a, b| covers(a, b, *width).number;
+        let question_of = |record| question_of(record, *width);
         let questions = question_of(first).zip(question_of(second));
         let questions = questions.as_ref();
         let atoms_covered =
             |(a, b): &(Question, Question)| cover::covers(&a.unanswered(), &b.unanswered());
         Judged {
             first,
-            both: (covers(first, second).number, covers(second, first).number),
+            width: Width::of(*width),
+            both: (covers(first, second), covers(second, first)),
             question: question_of(first),
             places: questions.map(|(a, b)| (a.answer.len(), b.answer.len())),
             sizes: questions.map(|(a, b)| (a.atoms.len(), b.atoms.len())),
             atoms_covered: questions.is_some_and(atoms_covered),
             maps: questions.and_then(|(a, b)| Maps::of(a, b).or_else(|| Maps::of(b, a))),
         }
+    }
+
+    /// The bytes of an atom; of no width as of the narrower.
+    fn atom(&self) -> usize {
+        self.width.unwrap_or(Width::Four).atom()
+    }
+
+    /// Whether the records are of this width and the first covers the second.
+    fn is_covered_of(&self, width: Width) -> bool {
+        self.width == Some(width) && self.both.0 == 1
+    }
+
+    /// Whether the first record is malformed, of width 6, and long enough for an answer record,
+    /// as which it begins.
+    fn is_no_six(&self) -> bool {
+        self.is_no_answered() && self.width == Some(Width::Six) && self.first.len() > 7
     }
 
     /// Whether one record is kept and this holds of its maps.

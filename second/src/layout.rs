@@ -1,10 +1,6 @@
 //! Where the parts of a stored book stand: its header words and its rules.
 
-/// The length of the header.
-pub const HEADER: usize = 18;
-
-/// The length of an atom.
-pub const ATOM: usize = 5;
+use crate::width::Width;
 
 /// The byte in an unused place.
 pub const UNUSED: u8 = 255;
@@ -15,11 +11,9 @@ pub const ANSWER: u8 = 255;
 /// The byte of the first constant.
 pub const FIRST_CONSTANT: u8 = 128;
 
-/// The most variables a rule or a question has.
-pub const VARIABLES: usize = 32;
-
-/// The nine header words.
+/// The header words, and the form that they tell.
 pub struct Header {
+    pub width: Width,
     pub relations: usize,
     pub constants: usize,
     pub rules: usize,
@@ -29,16 +23,29 @@ pub struct Header {
     pub rules_at: usize,
     pub question_at: usize,
     pub total: usize,
+    /// The tenth word, if the form has one.
+    pub places: Option<usize>,
+}
+
+/// The form of a book that is long enough to tell it: "The relations' offset, 18 or 20, tells
+/// the forms apart."
+pub fn width_of(bytes: &[u8]) -> Width {
+    match bytes.get(10..12) {
+        Some(word) => Width::told_by(u16::from_le_bytes([word[0], word[1]]) as usize),
+        None => Width::Four,
+    }
 }
 
 impl Header {
     /// The header, if the book has one.
     pub fn of(bytes: &[u8]) -> Option<Header> {
-        if bytes.len() < HEADER {
+        let width = width_of(bytes);
+        if bytes.len() < width.header() {
             return None;
         }
         let word = |i: usize| u16::from_le_bytes([bytes[2 * i], bytes[2 * i + 1]]) as usize;
         Some(Header {
+            width,
             relations: word(0),
             constants: word(1),
             rules: word(2),
@@ -48,24 +55,32 @@ impl Header {
             rules_at: word(6),
             question_at: word(7),
             total: word(8),
+            places: (width.words() > 9).then(|| word(9)),
         })
     }
 
-    /// "The total is the question's offset + 5 x N"; with an answer record N + 1.
+    /// "The total is the question's offset + 5 x N", in the new form 7 x N; with an answer
+    /// record N + 1.
     pub fn total_of(&self, answered: bool) -> usize {
-        self.question_at + ATOM * (self.atoms + answered as usize)
+        self.question_at + self.width.atom() * (self.atoms + answered as usize)
     }
 
     /// Whether an answer record stands before the question's atoms: "N doesn't count it; a
-    /// total five larger announces it."
+    /// total five larger announces it." In the new form seven larger.
     pub fn is_answered(&self) -> bool {
         self.total == self.total_of(true)
     }
 
     /// Where the question's atoms stand.
     pub fn question_atoms(&self) -> Vec<usize> {
-        let first = self.question_at + ATOM * self.is_answered() as usize;
-        (0..self.atoms).map(|i| first + ATOM * i).collect()
+        let atom = self.width.atom();
+        let first = self.question_at + atom * self.is_answered() as usize;
+        (0..self.atoms).map(|i| first + atom * i).collect()
+    }
+
+    /// Where the rules must begin.
+    pub fn rules_begin(&self) -> usize {
+        self.width.header() + self.relations
     }
 }
 
@@ -88,7 +103,8 @@ pub enum NoRule {
 }
 
 /// The rule at this offset, with the question's offset as the limit.
-pub fn rule_at(bytes: &[u8], at: usize, limit: usize) -> Result<RuleAt, NoRule> {
+fn rule_at(header: &Header, bytes: &[u8], at: usize) -> Result<RuleAt, NoRule> {
+    let (limit, atom) = (header.question_at, header.width.atom());
     let limit_of_bytes = limit.min(bytes.len());
     if at + 2 > limit_of_bytes {
         return Err(NoRule::NoCounts(limit_of_bytes.saturating_sub(at)));
@@ -97,14 +113,14 @@ pub fn rule_at(bytes: &[u8], at: usize, limit: usize) -> Result<RuleAt, NoRule> 
     if body > 4 || !(1..=4).contains(&head) {
         return Err(NoRule::Counts(body, head));
     }
-    let head_at = at + 2 + ATOM * body;
-    let end = head_at + ATOM * head;
+    let head_at = at + 2 + atom * body;
+    let end = head_at + atom * head;
     if end > limit {
         return Err(NoRule::Past(body));
     }
     Ok(RuleAt {
-        body: (0..body).map(|i| at + 2 + ATOM * i).collect(),
-        head: (0..head).map(|i| head_at + ATOM * i).collect(),
+        body: (0..body).map(|i| at + 2 + atom * i).collect(),
+        head: (0..head).map(|i| head_at + atom * i).collect(),
         end,
     })
 }
@@ -121,11 +137,11 @@ pub struct Rules {
 pub fn rules(header: &Header, bytes: &[u8]) -> Rules {
     let mut rules = Rules {
         found: Vec::new(),
-        end: HEADER + header.relations,
+        end: header.rules_begin(),
         broken: None,
     };
     for _ in 0..header.rules {
-        match rule_at(bytes, rules.end, header.question_at) {
+        match rule_at(header, bytes, rules.end) {
             Ok(rule) => {
                 rules.end = rule.end;
                 rules.found.push(rule);

@@ -2,13 +2,14 @@
 //! not from the proved code: brute force where that is more plainly right.
 //!
 //! Reading order: `term`, `cover`, `form`, `unify`, `explore` say what a run is;
-//! `book`, `union`, `run`, `print` put it into bytes; `desk` is the search desk, `meeting`
-//! what it says of a map. `source` is the text form of books. `generate`, `damage`, `limits`,
-//! `pairs`, `kinds` and `seen` serve the comparer, a package of its own; `chase` and `ledger`
+//! `width`, `book`, `union`, `run`, `print` put it into bytes, `copying` a book into its other
+//! form; `desk` is the search desk, `meeting` what it says of a map. `source` is the text form of books. `generate`, `damage`, `limits`,
+//! `raw`, `six`, `pairs`, `kinds` and `seen` serve the comparer, a package of its own; `chase` and `ledger`
 //! the second check of what a complete union promises.
 
 pub mod book;
 pub mod chase;
+pub mod copying;
 pub mod cover;
 pub mod damage;
 pub mod desk;
@@ -23,16 +24,19 @@ pub mod meeting;
 pub mod pairs;
 pub mod print;
 pub mod random;
+pub mod raw;
 pub mod refuse;
 pub mod run;
 pub mod seen;
 pub mod shapes;
+pub mod six;
 pub mod source;
 pub mod term;
 pub mod unify;
 pub mod union;
 pub mod watch;
 pub mod way;
+pub mod width;
 
 use std::process::ExitCode;
 

@@ -2,22 +2,29 @@
 
 use crate::book;
 use crate::damage;
-use crate::layout::UNUSED;
+use crate::raw;
+use crate::six;
 use crate::source;
+use crate::width::{Width, WIDTHS};
 use std::fmt::Write;
 
 /// A name and the bytes of each.
 pub fn books() -> Vec<(String, Vec<u8>)> {
     let mut books = Vec::new();
     let texts = sources().into_iter().chain(answered_sources());
-    for (name, text) in texts.chain(known_sources()) {
+    let texts = texts.chain(known_sources()).chain(six::sources());
+    for (name, text) in texts {
         let source = source::read(&text).unwrap_or_else(|what| panic!("{name}: {what}"));
         books.push((name.to_string(), book::write(&source.book)));
     }
-    books.extend(raw());
-    let large = source::read(&largest("r0")).unwrap().book;
-    for (i, bytes) in damage::far(&large).into_iter().enumerate() {
-        books.push((format!("far {i}"), bytes));
+    books.extend(raw::new_form());
+    for width in WIDTHS {
+        let places = width.places();
+        books.extend(raw::books(width));
+        let large = source::read(&largest("r0", width)).unwrap().book;
+        for (i, bytes) in damage::far(&large).into_iter().enumerate() {
+            books.push((format!("far, {places} places, {i}"), bytes));
+        }
     }
     for (name, text) in [
         ("swept", SWEPT),
@@ -27,6 +34,10 @@ pub fn books() -> Vec<(String, Vec<u8>)> {
         let swept = source::read(text).unwrap().book;
         for (i, bytes) in damage::sweep(&swept).into_iter().enumerate() {
             books.push((format!("{name} {i}"), bytes));
+        }
+        let swept = source::read(&format!("places 6\n{text}")).unwrap().book;
+        for (i, bytes) in damage::sweep(&swept).into_iter().enumerate() {
+            books.push((format!("{name}, new {i}"), bytes));
         }
     }
     books
@@ -51,15 +62,15 @@ const SWEPT_KNOWN: &str = "relation p 1\nrelation q 2\nconstant a b\n\
 fn sources() -> Vec<(&'static str, String)> {
     vec![
         ("smallest", smallest()),
-        ("largest", largest("r0")),
-        ("largest, heads met", largest("r63")),
+        ("largest", largest("r0", Width::Four)),
+        ("largest, heads met", largest("r63", Width::Four)),
         ("390,624 choices", many_choices()),
         ("390,624 choices, two places", many_choices_wide()),
         ("11 atoms, uncovered", eleven("t", 1)),
         ("11 atoms, covered", eleven("p", 1)),
         ("44 variables, uncovered", eleven("t", 4)),
         ("44 variables, covered", eleven("p", 4)),
-        ("32 variables", thirty_two()),
+        ("32 variables", widest(Width::Four)),
         ("a last atom that fits nowhere", fits_nowhere()),
         ("two last atoms that do not meet", do_not_meet()),
         ("64 members, L 64", words(7, "", "", 64)),
@@ -98,9 +109,12 @@ fn answered_sources() -> Vec<(&'static str, String)> {
         ("smallest, answered", answered("x", smallest())),
         (
             "largest, answered",
-            answered("b7,c126,a0,a0", largest("r0")),
+            answered("b7,c126,a0,a0", largest("r0", Width::Four)),
         ),
-        ("32 variables, answered", answered("e7,d3", thirty_two())),
+        (
+            "32 variables, answered",
+            answered("p7_3,p3_2", widest(Width::Four)),
+        ),
         (
             "11 atoms, answered, uncovered",
             answered("a0", eleven("t", 1)),
@@ -242,7 +256,7 @@ fn known_pairs(things: usize) -> String {
 }
 
 /// A source, its question asked with these answer places.
-fn answered(places: &str, text: String) -> String {
+pub fn answered(places: &str, text: String) -> String {
     text.replacen("question ", &format!("question a({places}) : "), 1)
 }
 
@@ -279,24 +293,31 @@ fn widened() -> String {
 }
 
 /// One relation, no rules, one atom.
-fn smallest() -> String {
+pub fn smallest() -> String {
     "relation p 1\nquestion p(x)\nallow 1\n".into()
 }
 
-/// 64 relations, 127 constants, 32 rules of four atoms to four, eight question atoms.
-/// The heads have relation r0, r1, ..; the question asks for `asked`.
-fn largest(asked: &str) -> String {
+/// 64 relations, 127 constants, 32 rules of four atoms to four, eight question atoms, all of
+/// as many places as there are. The heads have relation r0, r1, ..; the question asks for
+/// `asked`.
+pub fn largest(asked: &str, width: Width) -> String {
     let mut text = String::new();
-    (0..64).for_each(|i| writeln!(text, "relation r{i} 4").unwrap());
+    let places = width.places();
+    (0..64).for_each(|i| writeln!(text, "relation r{i} {places}").unwrap());
     (0..127).for_each(|i| writeln!(text, "constant c{i}").unwrap());
     for i in 0..32 {
-        let atom = |r: usize, a: &str| format!("r{r}({a},{a}1,c{},c{})", i, 126 - i);
+        let more = ["", ",u,w"][width as usize];
+        let atom = |r: usize, a: &str| format!("r{r}({a},{a}1,c{},c{}{more})", i, 126 - i);
         let body: Vec<String> = (32..36).map(|r| atom(r, "x")).collect();
         let head: Vec<String> = (0..4).map(|r| atom(63 - (i + r) % 32, "y")).collect();
         writeln!(text, "rule {} -> {}", body.join(" "), head.join(" ")).unwrap();
     }
+    let more = |i: usize| match width {
+        Width::Four => String::new(),
+        Width::Six => format!(",d{i},c{i}"),
+    };
     let question: Vec<String> = (0..8)
-        .map(|i| format!("{asked}(a{i},b{i},c{i},c{})", 126 - i))
+        .map(|i| format!("{asked}(a{i},b{i},c{i},c{}{})", 126 - i, more(i)))
         .collect();
     writeln!(text, "question {}\nallow 1000", question.join(" ")).unwrap();
     text
@@ -322,9 +343,9 @@ fn many_choices_wide() -> String {
 }
 
 /// Seven atoms of p and one of t, and a rule that puts four of q in the
-/// place of one of relation `head`: 11 atoms, and with four places 44 variables. The
+/// place of one of relation `head`: 11 atoms, and with four places 44 variables, with six 66. The
 /// question covers the rewriting if another atom of that relation is left.
-fn eleven(head: &str, places: usize) -> String {
+pub fn eleven(head: &str, places: usize) -> String {
     let atom = |relation: &str, name: &str| {
         let terms: Vec<String> = (0..places).map(|i| format!("{name}{i}")).collect();
         format!("{relation}({})", terms.join(","))
@@ -372,22 +393,38 @@ fn four_places(relation: &str, many: usize) -> String {
     atoms.join(" ")
 }
 
-/// Members of eight atoms and 32 variables.
-fn thirty_two() -> String {
-    let relations: Vec<String> = (0..8).map(|i| format!("relation p{i} 4\n")).collect();
-    let asked: Vec<String> = (0..8)
-        .map(|i| format!("p{i}(a{i},b{i},d{i},e{i})"))
+/// Members of eight atoms and 32 variables, with six places 48.
+pub fn widest(width: Width) -> String {
+    let places = width.places();
+    let relations: Vec<String> = (0..8)
+        .map(|i| format!("relation p{i} {places}\n"))
         .collect();
+    let terms = |name: &str, order: Vec<usize>| {
+        let terms: Vec<String> = order.iter().map(|i| format!("{name}{i}")).collect();
+        terms.join(",")
+    };
+    let places = || (0..places).collect::<Vec<_>>();
+    let asked: Vec<String> = (0..8)
+        .map(|i| format!("p{i}({})", terms(&format!("p{i}_"), places())))
+        .collect();
+    let turned: Vec<usize> = places().into_iter().rev().collect();
+    let [mut back, mut again] = [places(), places()];
+    (back[3], again[3]) = (0, 2);
     format!(
-        "{}relation q 4\nrule q(x,y,z,w) -> p7(w,z,y,x)\nrule p0(x,y,z,x) -> q(x,y,z,z)\n\
+        "{}relation q {}\nrule q({}) -> p7({})\nrule p0({}) -> q({})\n\
          question {}\nallow 1000\n",
         relations.concat(),
+        width.places(),
+        terms("x", places()),
+        terms("x", turned),
+        terms("x", back),
+        terms("x", again),
         asked.join(" ")
     )
 }
 
 /// Example 10 with so many rules, and a rule and question atoms more.
-fn words(rules: usize, more_rules: &str, more_atoms: &str, allowed: usize) -> String {
+pub fn words(rules: usize, more_rules: &str, more_atoms: &str, allowed: usize) -> String {
     let mut text = String::new();
     (0..=rules).for_each(|i| writeln!(text, "relation p{i} 1").unwrap());
     text += "relation b 2\nconstant c0 c1\n";
@@ -405,7 +442,7 @@ const ROOM_RULE: &str = "rule p1(y) p1(z) -> p7(c0) p7(c1)";
 const LONG_RULE: &str = "rule b(c0,c0) b(c0,c1) b(c1,c0) b(c1,c1) -> p7(c1)";
 
 /// Five atoms that no rule meets.
-const LONG_QUESTION: &str = "b(x,y) b(y,z) b(z,x) b(x,c0) b(c1,x)";
+pub const LONG_QUESTION: &str = "b(x,y) b(y,z) b(z,x) b(x,c0) b(c1,x)";
 
 /// Fifty pairs of words, and twenty steps from the narrowest form of each to the widest:
 /// every step's rewriting covers the member taken up, which is removed. 1,000 questions are
@@ -464,59 +501,4 @@ fn stops() -> String {
     "relation p 1\nrelation q 1\nrelation s 1\nconstant c\n\
      rule p(x) -> p(c)\nrule q(c) -> p(c)\nrule s(x) -> p(x)\nquestion p(c)\nallow 50\n"
         .into()
-}
-
-/// Books that no source gives.
-fn raw() -> Vec<(String, Vec<u8>)> {
-    let sound = book::write(&source::read(&smallest()).unwrap().book);
-    let with = |changes: &[(usize, u8)]| {
-        let mut bytes = sound.clone();
-        changes.iter().for_each(|&(at, value)| bytes[at] = value);
-        bytes
-    };
-    let longer = |length: usize| {
-        let mut bytes = sound.clone();
-        bytes.resize(length, 0);
-        bytes
-    };
-    let mut books: Vec<(String, Vec<u8>)> = Vec::new();
-    for length in [0, 1, 17, 18, 23] {
-        books.push((format!("{length} bytes"), longer(length)));
-    }
-    for length in [25, 65_535, 65_536, 65_537, 70_000] {
-        books.push((format!("{length} bytes"), longer(length)));
-    }
-    // The question's offset 65,535 and the total 4: right only when cut to 16 bits.
-    let cut = with(&[(14, 255), (15, 255), (16, 4), (17, 0)]);
-    books.push(("a total cut to 16 bits".into(), cut));
-    let cut = with(&[(14, 255), (15, 255), (16, 9), (17, 0)]);
-    books.push(("an answered total cut to 16 bits".into(), cut));
-    for (rules, more) in [(0, 1), (0, 2), (1, 0), (1, 1), (1, 2), (1, 7), (1, 12)] {
-        let name = format!("{rules} rules said, {more} bytes there");
-        books.push((name, before_question(&sound, rules, &vec![1; more])));
-    }
-    // A rule of an empty body and one head atom has seven bytes.
-    let fact = [0, 1, 0, 0, UNUSED, UNUSED, UNUSED];
-    for more in 1..=fact.len() {
-        let name = format!("{more} bytes of a known thing");
-        books.push((name, before_question(&sound, 1, &fact[..more])));
-    }
-    let counts = [[0, 0], [0, 5], [5, 0], [1, 0]];
-    for counts in counts {
-        let name = format!("the counts {counts:?}");
-        let rule = [&counts, &fact[2..]].concat();
-        books.push((name, before_question(&sound, 1, &rule)));
-    }
-    books
-}
-
-/// A book without rules that says it has so many, with these bytes before the question and
-/// the offsets moved along.
-fn before_question(sound: &[u8], rules: u8, more: &[u8]) -> Vec<u8> {
-    let mut bytes = sound.to_vec();
-    bytes[4] = rules;
-    bytes[14] += more.len() as u8;
-    bytes[16] += more.len() as u8;
-    bytes.splice(19..19, more.iter().copied());
-    bytes
 }

@@ -11,9 +11,9 @@ use crate::term::{Atom, Term};
 /// How a record covers the other by this map: a line for each of its variables, such as
 /// `v0 to c1`, then one for its answer record and each of its atoms, such as
 /// `r0(v0) meets r0(c1)`, with the first atom of the other that it is sent to.
-pub fn meetings(record: &[u8], other: &[u8], map: &Bytes) -> String {
+pub fn meetings(record: &[u8], other: &[u8], width: usize, map: &Bytes) -> String {
     let sound = "a record that covers or is covered is sound";
-    let (record, other) = (question_of(record), question_of(other));
+    let (record, other) = (question_of(record, width), question_of(other, width));
     let (record, other) = (record.expect(sound), other.expect(sound));
     let mut text = went(map);
     if record.is_answered() {

@@ -1,10 +1,12 @@
 //! What the printing program prints.
 
+use crate::layout::width_of;
 use crate::run::{run_by, Answer};
 use crate::seen::Seen;
 use crate::term::{Atom, Question, Term};
 use crate::union::{self, OUTPUT_ROOM};
 use crate::way::Way;
+use crate::width::Width;
 
 /// The most bytes of its input that the program reads.
 pub const INPUT: usize = 65_536;
@@ -19,16 +21,16 @@ pub fn print_by(input: &[u8], way: Way, seen: &mut Seen) -> String {
     let book = &input[..input.len().min(INPUT)];
     let mut output = [0; OUTPUT_ROOM];
     let answer = run_by(book, &mut output, way, seen);
-    print_answer(answer, &output)
+    print_answer(answer, &output, width_of(book))
 }
 
 /// The lines for an answer and its output: "The first line has members and explored;
 /// each other line is a member", or a refusal's "number, then place".
-fn print_answer(answer: Answer, output: &[u8]) -> String {
+fn print_answer(answer: Answer, output: &[u8], width: Width) -> String {
     if answer.number != 0 {
         return format!("refused {} at {}\n", answer.number, answer.place);
     }
-    let (members, explored) = union::read(&output[..answer.place]);
+    let (members, explored) = union::read(&output[..answer.place], width);
     let mut text = format!("members {} explored {}\n", members.len(), explored);
     for member in &members {
         text += &print_question(member);

@@ -1,7 +1,8 @@
 //! Refusals 2 to 7 and 11: every (number, place) that applies to a book's bytes.
 
-use crate::layout::{self, Header, NoRule, RuleAt, Rules, ANSWER, ATOM, HEADER, UNUSED, VARIABLES};
+use crate::layout::{self, Header, NoRule, RuleAt, Rules, ANSWER, UNUSED};
 use crate::seen::Behaviour;
+use crate::width::{Width, ANSWER_PLACES};
 
 /// A reason to refuse a book: its number, its place, and which part of the reason holds.
 #[derive(Clone, Copy, Debug, PartialEq, Eq)]
@@ -34,7 +35,8 @@ pub fn faults(bytes: &[u8]) -> Vec<Fault> {
     let Some(header) = Header::of(bytes) else {
         let why = match bytes.len() {
             0 => Behaviour::Empty,
-            _ => Behaviour::UnderEighteen,
+            1..18 => Behaviour::UnderEighteen,
+            _ => Behaviour::UnderTwenty,
         };
         return vec![fault(2, 0, why)];
     };
@@ -50,7 +52,7 @@ pub fn faults(bytes: &[u8]) -> Vec<Fault> {
     faults
 }
 
-/// Refusal 3: "P, C, R, N or L outside the table".
+/// Refusal 3: "P, C, R, N or L outside the table", "a tenth word other than 6".
 fn table_faults(header: &Header) -> Vec<Fault> {
     let judged = [
         (header.relations < 1, Behaviour::NoRelation),
@@ -61,25 +63,29 @@ fn table_faults(header: &Header) -> Vec<Fault> {
         (header.atoms > 8, Behaviour::ManyAtoms),
         (header.allowed < 1, Behaviour::NothingAllowed),
         (header.allowed > 1000, Behaviour::MuchAllowed),
+        (header.places.is_some_and(|n| n != 6), Behaviour::TenthWord),
     ];
     applying(3, 0, &judged)
 }
 
 /// Refusal 4: the offsets and the total, which is that with the answer record or without.
 fn offset_faults(header: &Header, length: usize) -> Vec<Fault> {
-    let rules_at = HEADER + header.relations;
+    let (width, rules_at) = (header.width, header.rules_begin());
     let (without, with) = (header.total_of(false), header.total_of(true));
     let neither = header.total != without && header.total != with;
     let between = without < header.total && header.total < with;
     let cut = |total: usize| neither && header.total == total % 65_536;
     let before = header.question_at < header.rules_at;
     let judged = [
-        (header.relations_at != HEADER, Behaviour::RelationsOffset),
+        (
+            header.relations_at != width.header(),
+            Behaviour::RelationsOffset,
+        ),
         (header.rules_at != rules_at, Behaviour::RulesOffset),
         (before, Behaviour::QuestionOffset),
         (neither, Behaviour::Total),
         (between, Behaviour::TotalBetween),
-        (header.total == with + ATOM, Behaviour::TotalTenMore),
+        (header.total == with + width.atom(), Behaviour::TotalTenMore),
         (cut(without), Behaviour::TotalCut),
         (cut(with), Behaviour::TotalCutAnswered),
         (length < header.total, Behaviour::BookShorter),
@@ -89,16 +95,18 @@ fn offset_faults(header: &Header, length: usize) -> Vec<Fault> {
     applying(4, 0, &judged)
 }
 
-/// Refusal 5: "a relation's places not 1 to 4", at that byte.
+/// Refusal 5: "a relation's places not 1 to 4", in the new form 1 to 6, at that byte.
 fn relation_faults(header: &Header, bytes: &[u8]) -> Vec<Fault> {
     let mut faults = Vec::new();
-    let places = bytes[HEADER..].iter().take(header.relations);
+    let (first, most) = (header.width.header(), header.width.places());
+    let places = bytes[first..].iter().take(header.relations);
     for (i, &places) in places.enumerate() {
         let judged = [
             (places < 1, Behaviour::NoPlaces),
-            (places > 4, Behaviour::FivePlaces),
+            (places as usize > most && most == 4, Behaviour::FivePlaces),
+            (places as usize > most && most == 6, Behaviour::SevenPlaces),
         ];
-        faults.extend(applying(5, HEADER + i, &judged));
+        faults.extend(applying(5, first + i, &judged));
     }
     faults
 }
@@ -164,7 +172,7 @@ fn fact_faults(header: &Header, bytes: &[u8], rules: &[RuleAt]) -> Vec<Fault> {
 }
 
 /// Refusal 7 in the answer record: "relation byte 255", "used places first and at least one
-/// used", each with what a question atom may hold.
+/// used", each with what a question atom may hold, and "at most four".
 fn answer_faults(header: &Header, bytes: &[u8]) -> Vec<Fault> {
     let at = header.question_at;
     let Some((relation, places)) = answer_record(header, bytes) else {
@@ -180,8 +188,8 @@ fn answer_faults(header: &Header, bytes: &[u8]) -> Vec<Fault> {
     let mut faults = applying(7, at, &judged);
     let used = places.iter().take_while(|&&byte| byte != UNUSED).count();
     for (i, &byte) in places.iter().enumerate() {
-        if let Some(why) = place_fault(header, byte, i < used.max(1)) {
-            faults.push(fault(7, at + 1 + i, of_answer(why)));
+        if let Some(why) = place_fault(header, byte, i < used.clamp(1, ANSWER_PLACES)) {
+            faults.push(fault(7, at + 1 + i, of_answer(why, i)));
         }
     }
     faults
@@ -190,14 +198,18 @@ fn answer_faults(header: &Header, bytes: &[u8]) -> Vec<Fault> {
 /// The relation byte and the places of the answer record, if one is announced and there.
 fn answer_record<'b>(header: &Header, bytes: &'b [u8]) -> Option<(u8, &'b [u8])> {
     let at = header.question_at;
-    let record = bytes.get(at..at + ATOM).filter(|_| header.is_answered());
+    let record = bytes.get(at..at + header.width.atom());
+    let record = record.filter(|_| header.is_answered());
     record.map(|record| (record[0], &record[1..]))
 }
 
 /// A place byte that is not allowed, as one of the answer record.
-fn of_answer(why: Behaviour) -> Behaviour {
+fn of_answer(why: Behaviour, place: usize) -> Behaviour {
     match why {
+        _ if place == 4 => Behaviour::AnswerFifth,
+        _ if place == 5 => Behaviour::AnswerSixth,
         Behaviour::VariableOver31 => Behaviour::AnswerVariableOver31,
+        Behaviour::VariableOver47 => Behaviour::AnswerVariableOver47,
         Behaviour::ConstantNotBelowC => Behaviour::AnswerConstantNotBelowC,
         Behaviour::UsedPlace255 => Behaviour::AnswerNoneUsed,
         _ => Behaviour::AnswerGap,
@@ -209,14 +221,15 @@ fn unbound_faults(header: &Header, bytes: &[u8]) -> Vec<Fault> {
     let Some((_, places)) = answer_record(header, bytes) else {
         return Vec::new();
     };
-    let atoms = header.question_atoms().into_iter();
+    let (atoms, width) = (header.question_atoms().into_iter(), header.width);
     let stands = |byte: &u8| {
-        let mut atoms = atoms.clone().filter_map(|at| bytes.get(at + 1..at + ATOM));
+        let places = |at| bytes.get(at + 1..at + width.atom());
+        let mut atoms = atoms.clone().filter_map(places);
         atoms.any(|places| places.contains(byte))
     };
     let mut faults = Vec::new();
     for (i, byte) in places.iter().enumerate() {
-        let unbound = (*byte as usize) < VARIABLES && !stands(byte);
+        let unbound = (*byte as usize) < width.variables() && !stands(byte);
         let judged = [
             (unbound && i == 0, Behaviour::UnboundFirst),
             (unbound && i > 0, Behaviour::UnboundLater),
@@ -235,16 +248,16 @@ fn faults_of_atom(
     relation: Behaviour,
     place: Behaviour,
 ) -> Vec<Fault> {
-    let Some(atom) = bytes.get(at..at + ATOM) else {
+    let Some(atom) = bytes.get(at..at + header.width.atom()) else {
         return Vec::new();
     };
     if atom[0] as usize >= header.relations {
         return vec![fault(7, at, relation)];
     }
-    let used = bytes.get(HEADER + atom[0] as usize);
+    let used = bytes.get(header.width.header() + atom[0] as usize);
     let used = used.map_or(0, |&places| places as usize);
     let mut faults = Vec::new();
-    for i in 0..4 {
+    for i in 0..header.width.places() {
         if let Some(why) = place_fault(header, atom[1 + i], i < used) {
             faults.push(fault(7, at + 1 + i, why));
             faults.push(fault(7, at + 1 + i, place));
@@ -254,13 +267,17 @@ fn faults_of_atom(
 }
 
 /// Why this byte is not allowed in a place: "A used place holds 0 to 31 for a variable
-/// or 128 to 127 + C for a constant; an unused place holds 255."
+/// or 128 to 127 + C for a constant; an unused place holds 255." In the new form "variables
+/// run 0 to 47".
 fn place_fault(header: &Header, byte: u8, used: bool) -> Option<Behaviour> {
     match (used, byte) {
         (false, 255) => None,
         (false, _) => Some(Behaviour::UnusedPlace),
-        (true, 0..=31) => None,
-        (true, 32..=127) => Some(Behaviour::VariableOver31),
+        (true, 0..=127) if (byte as usize) < header.width.variables() => None,
+        (true, 0..=127) => Some(match header.width {
+            Width::Four => Behaviour::VariableOver31,
+            Width::Six => Behaviour::VariableOver47,
+        }),
         (true, 255) => Some(Behaviour::UsedPlace255),
         (true, _) if (byte as usize) < 128 + header.constants => None,
         (true, _) => Some(Behaviour::ConstantNotBelowC),

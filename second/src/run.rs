@@ -1,10 +1,11 @@
 //! Running one book from bytes to bytes.
 
-use crate::book;
+use crate::book::{self, Book};
 use crate::explore::{explore_by, Outcome};
 use crate::seen::{Behaviour, Seen};
-use crate::union::{self, LARGEST_BOOLEAN, OUTPUT_ROOM, SMALLEST};
+use crate::union::{self, OUTPUT_ROOM};
 use crate::way::Way;
+use crate::width::Width;
 
 /// "The answer is a number and a place."
 #[derive(Clone, Copy, Debug, PartialEq, Eq)]
@@ -32,19 +33,32 @@ pub fn run_by(bytes: &[u8], output: &mut [u8], way: Way, seen: &mut Seen) -> Ans
     match explore_by(&book, way, seen) {
         Outcome::Refused { number, place } => answer(number, place),
         Outcome::Complete { members, explored } => {
-            let union = union::write(&members, explored);
+            let union = union::write(&members, explored, book.width);
             output[..union.len()].copy_from_slice(&union);
-            let (length, answered) = (union.len(), book.question.is_answered());
-            let largest_boolean = !answered && length == LARGEST_BOOLEAN;
-            seen.mark_if(largest_boolean, Behaviour::LargestBooleanUnion);
-            seen.mark_if(length == OUTPUT_ROOM, Behaviour::LargestUnion);
-            seen.mark_if(length == SMALLEST, Behaviour::SmallestUnion);
+            mark_length(&book, union.len(), seen);
             answer(0, union.len())
         }
     }
 }
 
+/// Counts which limits a union's length is at.
+fn mark_length(book: &Book, length: usize, seen: &mut Seen) {
+    let largest = |answered| length == union::largest(book.width, answered);
+    let (boolean, old) = (!book.question.is_answered(), book.width == Width::Four);
+    seen.mark_if(
+        old && boolean && largest(false),
+        Behaviour::LargestBooleanUnion,
+    );
+    seen.mark_if(old && largest(true), Behaviour::LargestOldUnion);
+    seen.mark_if(
+        !old && boolean && largest(false),
+        Behaviour::LargestBooleanNewUnion,
+    );
+    seen.mark_if(length == OUTPUT_ROOM, Behaviour::LargestUnion);
+    seen.mark_if(length == union::SMALLEST, Behaviour::SmallestUnion);
+}
+
 /// An answer of this number and place.
-fn answer(number: usize, place: usize) -> Answer {
+pub fn answer(number: usize, place: usize) -> Answer {
     Answer { number, place }
 }

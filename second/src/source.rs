@@ -18,11 +18,15 @@
 //! they are used. Any other name in a place is a variable of that rule or question; one
 //! that begins with a capital must be declared, so a misspelt constant is no variable.
 //! Variables get the numbers 0, 1, .. as they appear, but `v7` always is number 7.
+//!
+//! A book is in the old form unless a relation has five or six places, or a line `places 6`
+//! asks for the new one. In the new form a rule or a question may have 48 variables once that
+//! is said; in the old one 32.
 
 use crate::book::Book;
-use crate::layout::VARIABLES;
 use crate::print::{print_atoms, print_terms, ALWAYS};
 use crate::term::{Atom, Question, Rule, Term};
+use crate::width::{Width, ANSWER_PLACES};
 use std::fmt::Write;
 
 /// A book with the names that its source gives to relations and constants.
@@ -35,6 +39,8 @@ pub struct Source {
 /// What was read so far.
 #[derive(Default)]
 struct Reading {
+    /// Whether the new form is asked for.
+    new: bool,
     relations: Vec<(String, usize)>,
     constants: Vec<String>,
     rules: Vec<Rule>,
@@ -59,12 +65,33 @@ impl Reading {
         let (word, rest) = line.split_once(char::is_whitespace).unwrap_or((line, ""));
         match word {
             "" => Ok(()),
+            "places" => self.places(rest),
             "relation" => self.relation(rest),
             "constant" => self.constants(rest),
             "rule" => self.rule(rest),
             "question" => self.question(rest),
             "allow" => self.allow(rest),
             _ => Err(format!("`{word}` begins no line")),
+        }
+    }
+
+    /// `places 6`
+    fn places(&mut self, rest: &str) -> Result<(), String> {
+        self.new = true;
+        match rest.trim() {
+            "6" => Ok(()),
+            other => Err(format!(
+                "`places {other}`: say 6, or nothing for the old form"
+            )),
+        }
+    }
+
+    /// The form that the lines so far ask for.
+    fn width(&self) -> Width {
+        let most = self.relations.iter().map(|(_, places)| *places).max();
+        match self.new {
+            true => Width::Six,
+            false => Width::having(most.unwrap_or(0)),
         }
     }
 
@@ -75,7 +102,7 @@ impl Reading {
             return Err("a relation has a name and a number of places".into());
         };
         self.new_name(name)?;
-        let places = number(places, 1, 4, "places")?;
+        let places = number(places, 1, Width::Six.places(), "places")?;
         self.relations.push((name.into(), places));
         within(self.relations.len(), 64, "relations")
     }
@@ -104,7 +131,7 @@ impl Reading {
     /// `rule BODY -> HEAD` or `rule -> HEAD`
     fn rule(&mut self, rest: &str) -> Result<(), String> {
         let (body, head) = rest.split_once("->").ok_or("a rule has an arrow `->`")?;
-        let mut names = Names::of(rest);
+        let mut names = Names::of(rest, self.width());
         let rule = Rule {
             body: self.atoms(body, &mut names)?,
             head: some(self.atoms(head, &mut names)?)?,
@@ -117,7 +144,7 @@ impl Reading {
 
     /// `question ATOMS` or `question a(TERMS) : ATOMS`
     fn question(&mut self, rest: &str) -> Result<(), String> {
-        let mut names = Names::of(rest);
+        let mut names = Names::of(rest, self.width());
         let (answer, atoms) = match rest.split_once(':') {
             None => (Vec::new(), rest),
             Some((answer, atoms)) => (self.answer(answer, &mut names)?, atoms),
@@ -139,7 +166,7 @@ impl Reading {
         let inside = text.trim().strip_prefix("a(");
         let inside = inside.and_then(|text| text.strip_suffix(')'));
         let answer = self.terms(inside.ok_or("answer places are written a(..)")?, names)?;
-        within(answer.len(), 4, "answer places")?;
+        within(answer.len(), ANSWER_PLACES, "answer places")?;
         Ok(answer)
     }
 
@@ -203,9 +230,11 @@ impl Reading {
 
     /// The book, once every line was read.
     fn end(self) -> Result<Source, String> {
+        let width = self.width();
         let (relations, places) = self.relations.into_iter().unzip();
         Ok(Source {
             book: Book {
+                width,
                 relations: places,
                 constants: self.constants.len(),
                 rules: self.rules,
@@ -222,38 +251,41 @@ impl Reading {
 struct Names {
     known: Vec<(String, usize)>,
     fixed: Vec<usize>,
+    /// How many there may be.
+    most: usize,
 }
 
 impl Names {
     /// No variable yet; the numbers of all `vN` in the text are set aside.
-    fn of(text: &str) -> Names {
-        let words = text.split(|c: char| !is_of_name(c));
+    fn of(text: &str, width: Width) -> Names {
+        let (words, most) = (text.split(|c: char| !is_of_name(c)), width.variables());
         Names {
             known: Vec::new(),
-            fixed: words.filter_map(fixed_number).collect(),
+            fixed: words.filter_map(|word| fixed_number(word, most)).collect(),
+            most,
         }
     }
 
     /// The number of the variable of this name.
     fn number(&mut self, name: &str) -> Result<usize, String> {
-        if let Some(number) = fixed_number(name) {
+        if let Some(number) = fixed_number(name, self.most) {
             return Ok(number);
         }
         if let Some((_, number)) = self.known.iter().find(|(known, _)| known == name) {
             return Ok(*number);
         }
         let taken = |n: &usize| self.fixed.contains(n) || self.known.iter().any(|(_, m)| m == n);
-        let free = (0..VARIABLES).find(|n| !taken(n));
-        let number = free.ok_or(format!("more than {VARIABLES} variables"))?;
+        let free = (0..self.most).find(|n| !taken(n));
+        let number = free.ok_or(format!("more than {} variables", self.most))?;
         self.known.push((name.into(), number));
         Ok(number)
     }
 }
 
-/// The number of a variable that is written `v0` to `v31`.
-fn fixed_number(name: &str) -> Option<usize> {
+/// The number of a variable that is written `v0` to `v31`, or to what the most allow.
+fn fixed_number(name: &str, most: usize) -> Option<usize> {
     let number: usize = name.strip_prefix('v')?.parse().ok()?;
-    (number < VARIABLES && name == format!("v{number}")).then_some(number)
+    (number < most && name == format!("v{number}")).then_some(number)
 }
 
 /// Whether a character may stand in a name.
@@ -287,6 +319,9 @@ fn within(many: usize, most: usize, what: &str) -> Result<(), String> {
 /// A source for a book, from which the same bytes come back.
 pub fn show(book: &Book) -> String {
     let mut text = String::new();
+    if book.width == Width::Six {
+        writeln!(text, "places 6").unwrap();
+    }
     for (i, places) in book.relations.iter().enumerate() {
         writeln!(text, "relation r{i} {places}").unwrap();
     }

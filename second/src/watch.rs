@@ -6,6 +6,7 @@ use crate::form::{distinct, form};
 use crate::seen::{Behaviour, Seen};
 use crate::term::{occurs, variables, Atom, Question, Rule, Term};
 use crate::unify::{choice_count, is_constant, of_question, of_rule, Apart, Choice, Classes};
+use crate::width::Width;
 use std::collections::BTreeSet;
 
 /// What the book's question shows when its form is taken.
@@ -148,8 +149,11 @@ pub fn rewriting(new: &Question, seen: &mut Seen) {
     seen.mark_if(alone, Behaviour::RewritingAlwaysAnswered);
     let different = variables(&new.atoms).len();
     seen.mark_if(different == 44, Behaviour::Rewriting44);
-    let four = new.atoms.iter().any(|atom| atom.terms.len() == 4);
-    seen.mark_if(four, Behaviour::FourPlaces);
+    seen.mark_if(different == 66, Behaviour::Rewriting66);
+    let has = |places: usize| new.atoms.iter().any(|atom| atom.terms.len() == places);
+    seen.mark_if(has(4), Behaviour::FourPlaces);
+    seen.mark_if(has(5), Behaviour::FivePlacesMet);
+    seen.mark_if(has(6), Behaviour::SixPlaces);
 }
 
 /// What exploring one member shows: how many rewritings it had, and whether it was removed.
@@ -219,7 +223,8 @@ pub fn removed_by(new: &Question, removed: usize, left: usize, seen: &mut Seen) 
 pub fn appended(question: &Question, steps: usize, seen: &mut Seen) {
     seen.mark_if(steps > 0, Behaviour::Appended);
     let full = question.atoms.len() == MOST_ATOMS;
-    let wide = variables(&question.atoms).len() == 32;
+    let variables = variables(&question.atoms).len();
+    let (wide, widest_of_all) = (variables == 32, variables == 48);
     let answered = question.is_answered();
     let always = question.is_always();
     seen.mark_if(always, Behaviour::AlwaysMember);
@@ -230,6 +235,8 @@ pub fn appended(question: &Question, steps: usize, seen: &mut Seen) {
     seen.mark_if(full && answered, Behaviour::FullMemberAnswered);
     seen.mark_if(wide, Behaviour::Variables32);
     seen.mark_if(wide && answered, Behaviour::Variables32Answered);
+    seen.mark_if(widest_of_all, Behaviour::Variables48);
+    seen.mark_if(widest_of_all && answered, Behaviour::Variables48Answered);
 }
 
 /// What the end of a run shows.
@@ -258,6 +265,9 @@ fn complete(run: &Run, seen: &mut Seen) {
     seen.mark_if(always > 1, Behaviour::CompleteAlwaysSeveral);
     let answered = run.book.question.is_answered();
     seen.mark_if(answered, Behaviour::CompleteAnswered);
+    let new = run.book.width == Width::Six;
+    seen.mark_if(new, Behaviour::CompleteNew);
+    seen.mark_if(new && answered, Behaviour::CompleteNewAnswered);
     let answers: Vec<&Vec<Term>> = run.members.iter().map(|m| &m.question.answer).collect();
     let differ = answers.iter().any(|answer| *answer != answers[0]);
     seen.mark_if(differ, Behaviour::AnswersDiffer);
@@ -286,6 +296,11 @@ fn refused(run: &Run, number: usize, seen: &mut Seen) {
     let next = run.oldest_unexplored().map(|at| &run.members[at].question);
     let before = number == 10 && next.is_some_and(Question::is_always);
     seen.mark_if(before, Behaviour::Refusal10Always);
+    if run.book.width == Width::Six {
+        seen.mark_if(number == 8, Behaviour::Refusal8New);
+        seen.mark_if(number == 9, Behaviour::Refusal9New);
+        seen.mark_if(number == 10, Behaviour::Refusal10New);
+    }
     if run.book.question.is_answered() {
         seen.mark_if(number == 8, Behaviour::Refusal8Answered);
         seen.mark_if(number == 9, Behaviour::Refusal9Answered);

@@ -131,7 +131,13 @@ fn what_is_wrong_is_said_with_its_line() {
         "line 3: `p` has 1 places and not 2"
     );
     assert_eq!(with("relation p 2"), "line 3: `p` is declared twice");
-    assert_eq!(with("relation q 5"), "line 3: places: `5` is not 1 to 4");
+    assert_eq!(with("relation q 7"), "line 3: places: `7` is not 1 to 6");
+    assert_eq!(with("relation q 6"), "");
+    assert_eq!(with("places 6"), "");
+    assert_eq!(
+        with("places 4"),
+        "line 3: `places 4`: say 6, or nothing for the old form"
+    );
     assert_eq!(with("question p(A)"), "line 4: a second question");
     for (question, what) in [
         ("a(y) : p(x)", "an answer variable stands in no atom"),

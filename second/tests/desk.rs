@@ -4,11 +4,16 @@
 mod records;
 
 use records::{answered, record, U};
-use second::desk::keep;
+use second::desk;
 
 /// The number that covering gives.
 fn covers(first: &[u8], second: &[u8]) -> u8 {
-    second::desk::covers(first, second).number
+    desk::covers(first, second, 4).number
+}
+
+/// The record that is kept, of width 4.
+fn keep<'r>(first: &'r [u8], second: &'r [u8]) -> &'r [u8] {
+    desk::keep(first, second, 4)
 }
 
 #[test]

@@ -1,11 +1,13 @@
 //! The generators of books and pairs, the wrong shortcuts and the ledgers.
 
+use second::copying::{copy_by, BOOK_ROOM};
 use second::cover::holds;
 use second::print::{print, print_by};
 use second::random::Random;
 use second::seen::{Behaviour, Seen, BEHAVIOURS};
 use second::term::Term;
 use second::way::{Way, WRONG_WAYS};
+use second::width::WIDTHS;
 use second::{generate, kinds, ledger, limits, pairs};
 use std::process::Command;
 
@@ -36,31 +38,39 @@ fn the_same_books_on_every_machine() {
 }
 
 /// The digest of the first thousand books of seed 1.
-const DIGEST: u64 = 0xdf85_8594_f4ca_ff26;
+const DIGEST: u64 = 0xbbd0_6413_f7cc_06a4;
+
+/// Prints a book and copies it into both forms, counting what is met.
+fn meet(bytes: &[u8], seen: &mut Seen) {
+    print_by(bytes, Way::Right, seen);
+    for wanted in WIDTHS {
+        copy_by(bytes, &mut [0; BOOK_ROOM], wanted, seen);
+    }
+}
 
 #[test]
 fn the_books_made_on_purpose_meet_every_behaviour() {
     let mut seen = Seen::default();
     for (_, bytes) in limits::books() {
-        print_by(&bytes, Way::Right, &mut seen);
+        meet(&bytes, &mut seen);
     }
     for entry in std::fs::read_dir(concat!(env!("CARGO_MANIFEST_DIR"), "/../books")).unwrap() {
         let path = entry.unwrap().path();
         if path.extension().is_some_and(|e| e == "book") {
-            print_by(&std::fs::read(path).unwrap(), Way::Right, &mut seen);
+            meet(&std::fs::read(path).unwrap(), &mut seen);
         }
     }
-    let alone = BEHAVIOURS
-        .iter()
-        .find(|(b, _)| *b == Behaviour::OutputTooSmall);
-    assert_eq!(seen.missing(), [alone.unwrap().1]);
+    let small = [Behaviour::OutputTooSmall, Behaviour::CopyTooSmall];
+    let small = BEHAVIOURS.iter().filter(|(b, _)| small.contains(b));
+    let small: Vec<&str> = small.map(|(_, words)| *words).collect();
+    assert_eq!(seen.missing(), small);
 }
 
 #[test]
 fn generated_books_are_of_every_kind() {
     let mut seen = Seen::default();
     for bytes in generated(3, 4000) {
-        print_by(&bytes, Way::Right, &mut seen);
+        meet(&bytes, &mut seen);
     }
     let missing = seen.missing();
     assert!(missing.len() < BEHAVIOURS.len() / 8, "{missing:?}");
@@ -93,6 +103,21 @@ fn generated_books_are_of_every_kind() {
         Behaviour::CompleteAlways,
         Behaviour::CompleteAlwaysAmong,
         Behaviour::CompleteAlwaysSeveral,
+        Behaviour::UnderTwenty,
+        Behaviour::TenthWord,
+        Behaviour::SevenPlaces,
+        Behaviour::VariableOver47,
+        Behaviour::AnswerFifth,
+        Behaviour::AnswerSixth,
+        Behaviour::NoOldFormPlaces,
+        Behaviour::NoOldFormVariable,
+        Behaviour::CopiedToNew,
+        Behaviour::CopiedToOld,
+        Behaviour::CompleteNew,
+        Behaviour::CompleteNewAnswered,
+        Behaviour::Refusal8New,
+        Behaviour::Refusal10New,
+        Behaviour::SixPlaces,
     ] {
         assert!(seen.count(behaviour) > 0, "{behaviour:?}");
     }

@@ -5,8 +5,8 @@ mod records;
 
 use records::{answered, record, U};
 use second::cover::first_map;
-use second::desk::{covers, kept, question_of, Bytes, Covered, Kept, NO_MAP};
-use second::pairs::{answer, next};
+use second::desk::{self, question_of, Bytes, Covered, Kept, NO_MAP};
+use second::pairs::{answer, next, Pair};
 use second::random::Random;
 use second::term::{Atom, Question, Term};
 use std::collections::BTreeMap;
@@ -16,6 +16,25 @@ fn map(images: &[(usize, u8)]) -> Bytes {
     let mut bytes = NO_MAP;
     images.iter().for_each(|&(v, image)| bytes[v] = image);
     bytes
+}
+
+/// What covering gives of records of width 4.
+fn covers(first: &[u8], second: &[u8]) -> Covered {
+    desk::covers(first, second, 4)
+}
+
+/// Which of two records of width 4 is kept.
+fn kept(first: &[u8], second: &[u8]) -> Kept {
+    desk::kept(first, second, 4)
+}
+
+/// A pair of width 4.
+fn pair(first: Vec<u8>, second: Vec<u8>) -> Pair {
+    Pair {
+        width: 4,
+        first,
+        second,
+    }
 }
 
 /// An atom of relation 0 with two terms.
@@ -170,8 +189,9 @@ fn the_map_is_that_of_the_first_sequence_of_candidates() {
     let mut random = Random::new(31);
     let (mut maps, mut none) = (0, 0);
     for _ in 0..60_000 {
-        let (first, second) = next(&mut random);
-        let questions = question_of(&first).zip(question_of(&second));
+        let pair = next(&mut random);
+        let question_of = |record| question_of(record, pair.width);
+        let questions = question_of(&pair.first).zip(question_of(&pair.second));
         let Some((a, b)) = questions.filter(|(a, b)| a.atoms.len() <= 4 && b.atoms.len() <= 8)
         else {
             continue;
@@ -189,13 +209,16 @@ fn the_desk_writes_how_the_kept_one_covers_the_other() {
     let ring = record(&[p(0, 1), p(1, 0)]);
     let fixed = record(&[p(128, 128)]);
     let how = "v0 to c0\nv1 to c0\nr0(v0,v1) meets r0(c0,c0)\nr0(v1,v0) meets r0(c0,c0)\n";
-    let told = answer(&(ring.clone(), fixed.clone()));
+    let told = answer(&pair(ring.clone(), fixed.clone()));
     assert_eq!(told, format!("covers 1 keep first\n{how}"));
-    let told = answer(&(fixed.clone(), ring));
+    let told = answer(&pair(fixed.clone(), ring));
     assert_eq!(told, format!("covers 0 keep second\n{how}"));
-    assert_eq!(answer(&(vec![], fixed.clone())), "covers 2 keep none\n");
-    assert_eq!(answer(&(fixed.clone(), vec![])), "covers 3 keep none\n");
-    assert_eq!(answer(&(fixed, record(&[q(0)]))), "covers 0 keep none\n");
+    assert_eq!(answer(&pair(vec![], fixed.clone())), "covers 2 keep none\n");
+    assert_eq!(answer(&pair(fixed.clone(), vec![])), "covers 3 keep none\n");
+    assert_eq!(
+        answer(&pair(fixed, record(&[q(0)]))),
+        "covers 0 keep none\n"
+    );
 }
 
 #[test]
@@ -212,6 +235,9 @@ fn the_desk_writes_the_answer_record_first_and_the_first_atom_that_is_met() {
         "r1(c0) meets r1(c0)",
         "",
     ];
-    assert_eq!(answer(&(asked, facts)), lines.join("\n"));
-    assert_eq!(answer(&(vec![0], record(&[q(0)]))), "covers 1 keep first\n");
+    assert_eq!(answer(&pair(asked, facts)), lines.join("\n"));
+    assert_eq!(
+        answer(&pair(vec![0], record(&[q(0)]))),
+        "covers 1 keep first\n"
+    );
 }

@@ -4,10 +4,10 @@ mod common;
 
 use common::{kept, read};
 use second::book;
-use second::layout::ATOM;
 use second::run::{run, Answer};
-use second::union::{LARGEST_BOOLEAN, OUTPUT_ROOM};
+use second::union::{largest, OUTPUT_ROOM};
 use second::way::Way;
+use second::width::Width;
 
 /// A book with every kind of part: 2 relations (1 and 2 places), 2 constants, 2 rules.
 fn sample() -> Vec<u8> {
@@ -24,6 +24,9 @@ fn answered_sample() -> Vec<u8> {
         question a(x,b) : p(x) q(x,b)\nallow 9\n";
     book::write(&read(text).book)
 }
+
+/// The bytes of an atom in the old form.
+const ATOM: usize = 5;
 
 /// Offsets in the sample, and where the question's atoms stand in the answered one.
 const RELATIONS: usize = 18;
@@ -97,9 +100,11 @@ fn refusal_1_wins_over_everything() {
 
 #[test]
 fn refusal_1_is_the_same_for_books_without_an_answer_record() {
-    assert_eq!((OUTPUT_ROOM, LARGEST_BOOLEAN), (8 + 64 * 46, 8 + 64 * 41));
+    let largest_old = largest(Width::Four, true);
+    assert_eq!((OUTPUT_ROOM, largest_old), (8 + 64 * 64, 8 + 64 * 46));
+    assert_eq!(OUTPUT_ROOM, largest(Width::Six, true));
     for bytes in [sample(), answered_sample()] {
-        for (room, number) in [(LARGEST_BOOLEAN, 1), (OUTPUT_ROOM - 1, 1), (OUTPUT_ROOM, 0)] {
+        for (room, number) in [(largest_old, 1), (OUTPUT_ROOM - 1, 1), (OUTPUT_ROOM, 0)] {
             let mut output = vec![99; room];
             assert_eq!(run(&bytes, &mut output).number, number, "{room}");
             assert_eq!(output.iter().all(|&byte| byte == 99), number == 1);
@@ -485,11 +490,11 @@ fn as_many_explored_as_can_be_allowed() {
     assert_eq!(run(bytes("1,000 explored"), &mut output).number, 0);
     assert_eq!(output[..4], [50, 0, 232, 3]);
     assert_eq!(answer(bytes("1,000 wanted, L 999")), (10, 999));
-    assert_eq!(answer(bytes("the largest union")), (0, LARGEST_BOOLEAN));
-    assert_eq!(
-        answer(bytes("the largest union, answered")),
-        (0, OUTPUT_ROOM)
-    );
+    let length = |name: &str| answer(bytes(name));
+    assert_eq!(length("the largest union"), (0, 2632));
+    assert_eq!(length("the largest union, answered"), (0, 2952));
+    assert_eq!(length("new: the largest union without answers"), (0, 3656));
+    assert_eq!(length("new: the largest union"), (0, OUTPUT_ROOM));
 }
 
 #[test]

@@ -1,4 +1,4 @@
-//! The books: four ordinary kinds in three sizes, and the worst ones known.
+//! The books: four ordinary kinds in three sizes, books in the new form, and the worst ones known.
 
 mod choices;
 mod climbed;
@@ -6,9 +6,11 @@ mod late;
 mod members;
 mod ontology;
 mod rounds;
+mod six;
 mod text;
 mod words;
 
+pub use six::books as new_form;
 pub use text::Words;
 
 use crate::task::Task;

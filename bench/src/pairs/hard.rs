@@ -4,6 +4,10 @@ use super::graphs::*;
 use crate::task::{Bytes, Pace, Task, Work};
 use second::term::{Atom, Question, Term};
 use second::union::record;
+use second::width::Width;
+
+/// The graphs' records have room for four places.
+const WIDTH: Width = Width::Four;
 
 /// The hard shapes; the number in a name is how many atoms the second record has.
 pub fn tasks() -> Vec<Task> {
@@ -78,7 +82,7 @@ fn hard(name: &str, pace: Pace, first: Vec<Arrow>, second: Vec<Arrow>) -> Task {
         name: format!("pair-{name}"),
         rules: 0,
         pace,
-        work: Work::Covers(vec![(graph(&first), graph(&second))]),
+        work: Work::Covers(WIDTH, vec![(graph(&first), graph(&second))]),
     }
 }
 
@@ -88,5 +92,5 @@ fn graph(arrows: &[Arrow]) -> Bytes {
         let terms = vec![Term::Variable(from), Term::Variable(to)];
         Atom::new(0, terms)
     };
-    record(&Question::boolean(arrows.iter().map(atom).collect()))
+    record(&Question::boolean(arrows.iter().map(atom).collect()), WIDTH)
 }

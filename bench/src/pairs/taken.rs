@@ -4,17 +4,20 @@ use crate::books;
 use crate::sides::ROOM;
 use crate::task::{Bytes, Pace, Task, Wants, Work};
 use second::book::Book;
+use second::layout::width_of;
 use second::run::run;
 use second::seen::Seen;
 use second::term::Question;
 use second::unify::for_each_choice;
 use second::union;
+use second::width::Width;
 
 /// The books whose members, all of eight atoms, are taken.
-const BOOKS: [&str; 5] = [
+const BOOKS: [&str; 6] = [
     "near-64-members-8-wide",
     "near-64-members-16-wide",
     "near-64-members-32-wide",
+    "new-near-64-members-16-wide",
     "many-rounds-8-opened",
     "explorations-1000",
 ];
@@ -27,7 +30,8 @@ const STEPS: usize = 256;
 
 /// What is wanted of each book: its members against each other, and against rewritings.
 pub fn tasks(wants: Wants) -> Vec<Task> {
-    let made = books::ordinary().into_iter().chain(books::worst());
+    let made = books::ordinary().into_iter().chain(books::new_form());
+    let made = made.chain(books::worst());
     let taken = made.filter(|task| BOOKS.contains(&task.name.as_str()));
     taken.flat_map(|task| of_book(&task, wants)).collect()
 }
@@ -39,33 +43,34 @@ fn of_book(task: &Task, wants: Wants) -> Vec<Task> {
     if !members_wanted && !steps_wanted {
         return Vec::new();
     }
-    let members = members(task);
+    let (members, book) = (members(task), decoded(task));
     let [name, steps_name] = names;
+    let covering = |name, pairs| covering(name, book.width, pairs);
     let mut tasks = Vec::new();
     if members_wanted {
-        tasks.push(covering(name, members_pairs(&members)));
+        tasks.push(covering(name, members_pairs(&members, book.width)));
     }
     if steps_wanted {
-        tasks.push(covering(steps_name, step_pairs(&members, &decoded(task))));
+        tasks.push(covering(steps_name, step_pairs(&members, &book)));
     }
     tasks
 }
 
-/// A task of this name.
-fn covering(name: String, pairs: Vec<(Bytes, Bytes)>) -> Task {
+/// A task of this name, with these records of one width.
+fn covering(name: String, width: Width, pairs: Vec<(Bytes, Bytes)>) -> Task {
     Task {
         kind: "covering, members",
         name,
         rules: 0,
         pace: Pace::Ordinary,
-        work: Work::Covers(pairs),
+        work: Work::Covers(width, pairs),
     }
 }
 
 /// Some of a book's members, each against each: nearly all answers are no, and most at a glance.
-fn members_pairs(members: &[Question]) -> Vec<(Bytes, Bytes)> {
+fn members_pairs(members: &[Question], width: Width) -> Vec<(Bytes, Bytes)> {
     let members = evenly(members.iter(), MEMBERS);
-    records(pairs(&members, &members))
+    records(pairs(&members, &members), width)
 }
 
 /// Members against rewritings of members, both ways round, as an exploration asks; only where the
@@ -77,7 +82,7 @@ fn step_pairs(members: &[Question], book: &Book) -> Vec<(Bytes, Bytes)> {
     let mut both = pairs(&members, &steps);
     both.extend(pairs(&steps, &members));
     both.retain(|(first, second)| may_cover(first, second));
-    records(evenly(both.into_iter(), STEPS))
+    records(evenly(both.into_iter(), STEPS), book.width)
 }
 
 /// Whether every relation of the first question stands in the second too.
@@ -92,7 +97,8 @@ fn members(task: &Task) -> Vec<Question> {
     let mut out = [0; ROOM];
     let answer = run(task.book().expect("a book"), &mut out);
     assert_eq!(answer.number, 0, "{}: no union", task.name);
-    of_eight(union::read(&out[..answer.place]).0)
+    let width = width_of(task.book().expect("a book"));
+    of_eight(union::read(&out[..answer.place], width).0)
 }
 
 /// The book that a task runs.
@@ -135,7 +141,7 @@ fn pairs<'q>(first: &[&'q Question], second: &[&'q Question]) -> Vec<(&'q Questi
 }
 
 /// The records of pairs of questions.
-fn records(pairs: Vec<(&Question, &Question)>) -> Vec<(Bytes, Bytes)> {
-    let record = union::record;
+fn records(pairs: Vec<(&Question, &Question)>, width: Width) -> Vec<(Bytes, Bytes)> {
+    let record = |question| union::record(question, width);
     pairs.iter().map(|(a, b)| (record(a), record(b))).collect()
 }

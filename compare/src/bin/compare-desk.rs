@@ -1,8 +1,8 @@
 //! The comparer for the search desk: `compare-desk [--seconds N] [--count N] [--seed S]
 //! [--threads N] [--against CMD ARG..]`. Compares covering and keeping, their numbers and
 //! maps, on generated pairs in this process. CMD is a batch program, given some of them: it
-//! reads two records for each pair, each a little-endian length of four bytes and then its
-//! bytes; it writes a line `covers K keep first` (or `second` or `none`), then how the kept
+//! reads for each pair a byte, the width, and two records, each a little-endian length of four
+//! bytes and then its bytes; it writes a line `covers K keep first` (or `second` or `none`), then how the kept
 //! one covers the other, then a line with a single full stop. Fails at the first difference,
 //! and if a kind of pair was not met.
 
@@ -31,8 +31,8 @@ fn compare_all(asked: Asked) -> Result<(Kinds, String), String> {
     if let Some(against) = &asked.against {
         let blocks = (0..BATCHES).map(|block| asked.seed.wrapping_add(block));
         let pairs: Vec<_> = blocks.flat_map(|seed| generated(seed, BLOCK)).collect();
-        compare_batch(against, &pairs)?;
-        println!("the batch program: {} pairs", pairs.len());
+        let count = compare_batch(against, &pairs)?;
+        println!("the batch program: {count} pairs");
     }
     let start = Instant::now();
     let parts = each_block(asked.blocks(), Kinds::default, compare_block)?;

@@ -1,19 +1,21 @@
 //! The comparer: `compare [--seconds N] [--count N] [--seed S] [--threads N] [--books DIR]
-//! [--program PATH] [--against CMD ARG..]`. Runs the second program and the others in this
-//! process on the books in DIR, on the books made on purpose and on generated ones, and
-//! compares every byte. CMD is a batch program, given the same but for most of the generated
-//! ones; PATH a printing program that takes one book, given those in DIR and some made on
-//! purpose. Fails at the first difference, and if a behaviour of the paper was not met.
+//! [--program PATH] [--to-new PATH] [--to-old PATH] [--against CMD ARG..]`. Runs the second
+//! program and the others in this process on the books in DIR, on the books made on purpose and
+//! on generated ones, copies each into both forms, runs the other form too, and compares every
+//! byte. CMD is a batch program, given the same but for most of the generated
+//! ones; PATH a program that takes one book, to print its union or to copy it, given those in
+//! DIR and some made on purpose. Fails at the first difference, and if a behaviour of the paper was not met.
 
 use compare::against::Against;
 use compare::asked::Asked;
 use compare::blocks::{each_block, rate, BLOCK};
 use compare::comparison::Comparison;
 use compare::output::takes_small_output;
-use compare::programs::{compare_batch, compare_program};
+use compare::programs::{compare_batch, compare_copier, compare_program};
 use compare::side::{told, SIDES};
 use compare::Named;
 use second::seen::Behaviour;
+use second::width::Width;
 use second::{generate, limits, random::Random};
 use std::path::{Path, PathBuf};
 use std::process::ExitCode;
@@ -54,11 +56,17 @@ fn compare_programs(asked: &Asked, kept: &[Named], made: &[Named]) -> Result<(),
         let count = compare_batches(against, asked.seed, kept, made)?;
         println!("the batch program: {count} books");
     }
+    let singles = made.iter().filter(|(name, _)| single(name));
+    let some: Vec<Named> = kept.iter().chain(singles).cloned().collect();
     if let Some(program) = &asked.program {
-        let singles = made.iter().filter(|(name, _)| single(name));
-        let some: Vec<Named> = kept.iter().chain(singles).cloned().collect();
         compare_program(program, &some)?;
         println!("the printing program: {} books", some.len());
+    }
+    for (program, wanted) in [(&asked.to_new, Width::Six), (&asked.to_old, Width::Four)] {
+        if let Some(program) = program {
+            compare_copier(program, wanted, &some)?;
+            println!("a copying program: {} books", some.len());
+        }
     }
     Ok(())
 }
@@ -111,7 +119,10 @@ fn report(comparison: &Comparison, rate: &str) -> bool {
     println!("slowest: {name}, {:.2} s", took.as_secs_f64());
     let complete = comparison.seen.count(Behaviour::Complete);
     let compared = comparison.compared;
-    println!("books {compared}, of them complete {complete}, differences 0");
+    let both = comparison.in_both_forms;
+    println!(
+        "books {compared}, of them in both forms {both}, complete runs {complete}, differences 0"
+    );
     let missing = comparison.seen.missing();
     for words in &missing {
         println!("NOT MET: {words}");
@@ -121,7 +132,10 @@ fn report(comparison: &Comparison, rate: &str) -> bool {
 
 /// Compares, reports, and fails if anything differs or was not met.
 fn main() -> ExitCode {
-    let asked = Asked::read(std::env::args().skip(1), &["--books", "--program"]);
+    let asked = Asked::read(
+        std::env::args().skip(1),
+        &["--books", "--program", "--to-new", "--to-old"],
+    );
     match asked.and_then(compare_all) {
         Ok((comparison, rate)) if report(&comparison, &rate) => ExitCode::SUCCESS,
         Ok(_) => ExitCode::FAILURE,

@@ -14,9 +14,12 @@ use Rattle.covering.specs.Term.{Atom, Question}
 use Rattle.covering.specs.Search.{Part, nowhere, findMap, firstMap, covers}
 use Rattle.cover.specs.Candidates.{foundOn}
 use Rattle.covering.specs.Record.{stored, atomAt, atomsAt, questionOf}
+use Rattle.records.specs.Relations.{relationsOf, areIn}
+use Rattle.records.proofs.Among.{not-among}
 use Rattle.cover.specs.HeldMap.{partOf, Searched}
 use Rattle.cover.proofs.Ahead.{first-any}
 use Rattle.cover.proofs.Maps.{part-nowhere, said-yes}
+use Rattle.cover.proofs.Meeting.{not-some}
 use Rattle.cover.proofs.SearchSteps.{searched-as}
 use Rattle.covering.proofs.Places.{question-at, atoms-none, atoms-more}
 use Rattle.exploration.specs.Run.{Test, covered}
@@ -32,32 +35,36 @@ else-none : (o p : Option Part) → isSome o ≡ false → orElse o p ≡ p
 else-none (some q) p e = absurd (true≢false e)
 else-none none p e = refl
 
+pub covers-is : (A B : Question) → covers A B ≡ isSome (firstMap A B)
+unfolding covers
+covers-is A B = refl
+
 -- one candidate more
 module _ (f : Atom → Option Part) (B : List ℕ) (k w : ℕ) where
   abbrev from : ℕ → Option Part
-  from j = firstOf f (atomsAt stored B (1 + j * 5) (w - j))
+  from j = firstOf f (atomsAt stored B (1 + j * 7) (w - j))
 
   pub maps-end : w ≤ k → from k ≡ none
-  maps-end h = ap (firstOf f) (atoms-none stored B (1 + k * 5) (w - k) (sub-eq-zero-of-le h))
+  maps-end h = ap (firstOf f) (atoms-none stored B (1 + k * 7) (w - k) (sub-eq-zero-of-le h))
 
-  maps-next : k < w → from k ≡ orElse (f (atomAt stored B (1 + k * 5))) (from (k + 1))
+  maps-next : k < w → from k ≡ orElse (f (atomAt stored B (1 + k * 7))) (from (k + 1))
   maps-next h =
-      ap (firstOf f) (atoms-more stored B (1 + k * 5) (w - k) (omega arith))
-      ∙ ap₂ (λ (m n : ℕ). orElse (f (atomAt stored B (1 + k * 5))) (firstOf f (atomsAt stored B m n))) (omega arith) (omega arith)
+      ap (firstOf f) (atoms-more stored B (1 + k * 7) (w - k) (omega arith))
+      ∙ ap₂ (λ (m n : ℕ). orElse (f (atomAt stored B (1 + k * 7))) (firstOf f (atomsAt stored B m n))) (omega arith) (omega arith)
 
-  pub maps-hit : k < w → isSome (f (atomAt stored B (1 + k * 5))) ≡ true → from k ≡ f (atomAt stored B (1 + k * 5))
-  maps-hit h e = maps-next h ∙ else-some (f (atomAt stored B (1 + k * 5))) _ e
+  pub maps-hit : k < w → isSome (f (atomAt stored B (1 + k * 7))) ≡ true → from k ≡ f (atomAt stored B (1 + k * 7))
+  maps-hit h e = maps-next h ∙ else-some (f (atomAt stored B (1 + k * 7))) _ e
 
-  pub maps-miss : k < w → isSome (f (atomAt stored B (1 + k * 5))) ≡ false → from k ≡ from (k + 1)
-  maps-miss h e = maps-next h ∙ else-none (f (atomAt stored B (1 + k * 5))) _ e
+  pub maps-miss : k < w → isSome (f (atomAt stored B (1 + k * 7))) ≡ false → from k ≡ from (k + 1)
+  maps-miss h e = maps-next h ∙ else-none (f (atomAt stored B (1 + k * 7))) _ e
 
 -- the first map of a question with an atom is that of the first candidate that serves
 pub map-one : (M C : List ℕ) → 1 ≤ getD M 0 0
     → firstMap (questionOf stored M) (questionOf stored C)
-    ≡ firstOf (foundOn (questionOf stored M) (questionOf stored C) nowhere) (atomsAt stored C (1 + 0 * 5) (getD C 0 0 - 0))
+    ≡ firstOf (foundOn (questionOf stored M) (questionOf stored C) nowhere) (atomsAt stored C (1 + 0 * 7) (getD C 0 0 - 0))
 map-one M C s =
     ap (λ (A : Question). firstMap A (questionOf stored C)) split
-    ∙ first-any (atomAt stored M 1) (atomsAt stored M 6 (getD M 0 0 - 1)) (questionOf stored C)
+    ∙ first-any (atomAt stored M 1) (atomsAt stored M 8 (getD M 0 0 - 1)) (questionOf stored C)
     ∙ ap (λ (A : Question). firstOf (foundOn A (questionOf stored C) nowhere) (questionOf stored C)) (sym split)
     ∙ ap (firstOf (foundOn (questionOf stored M) (questionOf stored C) nowhere))
     (question-at stored C refl ∙ ap (atomsAt stored C 1) whole)
@@ -65,8 +72,33 @@ map-one M C s =
     whole : getD C 0 0 ≡ getD C 0 0 - 0
     whole = omega arith
 
-    split : questionOf stored M ≡ atomAt stored M 1 ∷ atomsAt stored M 6 (getD M 0 0 - 1)
+    split : questionOf stored M ≡ atomAt stored M 1 ∷ atomsAt stored M 8 (getD M 0 0 - 1)
     split = question-at stored M refl ∙ atoms-more stored M 1 (getD M 0 0) s
+
+-- the same where none is asked because the member's relations are not among the rewriting's
+module _ (M C : List ℕ) {s : ℕ} (has : 1 ≤ getD M 0 0) (is : s ≡ relationsOf (questionOf stored C)) where
+  abbrev asked : Bool → ℕ
+  asked b = cond b 0 (getD C 0 0)
+
+  asked-of : (b : Bool) → areIn s (questionOf stored M) ≡ b
+      → (asked b ≤ getD C 0 0)
+      × (firstMap (questionOf stored M) (questionOf stored C)
+      ≡ firstOf (foundOn (questionOf stored M) (questionOf stored C) nowhere)
+      (atomsAt stored C (1 + asked b * 7) (getD C 0 0 - asked b)))
+  asked-of true e = (omega arith, map-one M C has)
+  asked-of false e = (
+    omega arith,
+    not-some _ (sym (covers-is _ _) ∙ not-among _ _ is e) ∙ sym (maps-end _ C (getD C 0 0) _ (omega arith)),
+  )
+
+  pub map-asked : (X : List ℕ) (k : ℕ) → X ≡ M → k ≡ asked (areIn s (questionOf stored X))
+      → (k ≤ getD C 0 0)
+      × (firstMap (questionOf stored M) (questionOf stored C)
+      ≡ firstOf (foundOn (questionOf stored M) (questionOf stored C) nowhere)
+      (atomsAt stored C (1 + k * 7) (getD C 0 0 - k)))
+  map-asked X k f e =
+      rw (e ∙ ap (λ (Y : List ℕ). asked (areIn s (questionOf stored Y))) f)
+      (asked-of (areIn s (questionOf stored M)) refl)
 
 -- a question without atoms covers all, and no variable goes anywhere
 pub map-none : (M C : List ℕ) → getD M 0 0 ≡ 0 → firstMap (questionOf stored M) (questionOf stored C) ≡ some nowhere
@@ -75,19 +107,15 @@ map-none M C e =
     ap (λ (A : Question). firstMap A (questionOf stored C)) (question-at stored M refl ∙ atoms-none stored M 1 (getD M 0 0) e)
 
 -- what is asked of one candidate, where the map is as it came and the member stands in the array
-pub on-nowhere : (X M : List ℕ) (P : Question) (b : Atom) (m left : List ℕ) (r : Bool) → m ≡ replicate 64 255 → X ≡ M
+pub on-nowhere : (X M : List ℕ) (P : Question) (b : Atom) (m left : List ℕ) (r : Bool) → m ≡ replicate 96 255 → X ≡ M
     → Searched (foundOn (questionOf stored X) P (partOf m) b) m left r
-    → Searched (foundOn (questionOf stored M) P nowhere b) (replicate 64 255) left r
+    → Searched (foundOn (questionOf stored M) P nowhere b) (replicate 96 255) left r
 on-nowhere X M P b m left r e f s =
-    searched-as _ _ _ left r (ap₂ (λ x q. foundOn (questionOf stored x) P q b) f (part-nowhere 64))
+    searched-as _ _ _ left r (ap₂ (λ x q. foundOn (questionOf stored x) P q b) f (part-nowhere 96))
     (subst (λ x. Searched (foundOn (questionOf stored X) P (partOf x) b) x left r) e s)
 
 pub found-here : {o : Option Part} {m left : List ℕ} {r : Bool} → Searched o m left r → isSome o ≡ r
 found-here {o} {m} {left} {r} s = sym (said-yes r left o (s .finds))
-
-pub covers-is : (A B : Question) → covers A B ≡ isSome (firstMap A B)
-unfolding covers
-covers-is A B = refl
 
 -- one member more
 module _ (cov : Test) (P : Question) (W : List ℕ) (at i n : ℕ) where

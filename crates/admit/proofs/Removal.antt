@@ -103,7 +103,7 @@ module _ (W : List ℕ) (from to n : ℕ) (P : Question) where
 
       -- the rewriting covers it: passed
       pub midway-gone : covers P (questionOf stored (drop at W)) ≡ true
-          → Midway W from to n P X (at + (1 + byte W at * 5)) end kept (i + 1)
+          → Midway W from to n P X (at + (1 + byte W at * 7)) end kept (i + 1)
       midway-gone e =
           let w = without-is true e in
           record {
@@ -113,9 +113,9 @@ module _ (W : List ℕ) (from to n : ℕ) (P : Question) where
             few = omega (arith, m .few);
             standing = here .rest;
             same =
-                sym (drop-drop (1 + byte W at * 5) at X)
-                ∙ ap (drop (1 + byte W at * 5)) (m .same)
-                ∙ drop-drop (1 + byte W at * 5) at W;
+                sym (drop-drop (1 + byte W at * 7) at X)
+                ∙ ap (drop (1 + byte W at * 7)) (m .same)
+                ∙ drop-drop (1 + byte W at * 7) at W;
             bytes = ap (λ (U : List Question). take end X ++ heldBytes U) (sym w) ∙ m .bytes;
             ends = omega (arith, m .ends, ap (λ (U : List Question). length (heldBytes U)) w);
             count = omega (arith, m .count, ap length w);
@@ -125,8 +125,8 @@ module _ (W : List ℕ) (from to n : ℕ) (P : Question) where
       -- it does not: moved down
       pub midway-kept : covers P (questionOf stored (drop at W)) ≡ false → (Y : List ℕ)
           → Y
-          ≡ take end X ++ (take (1 + byte W at * 5) (drop at X) ++ drop (end + (1 + byte W at * 5)) X)
-          → Midway W from to n P Y (at + (1 + byte W at * 5)) (end + (1 + byte W at * 5)) (kept + 1) (i + 1)
+          ≡ take end X ++ (take (1 + byte W at * 7) (drop at X) ++ drop (end + (1 + byte W at * 7)) X)
+          → Midway W from to n P Y (at + (1 + byte W at * 7)) (end + (1 + byte W at * 7)) (kept + 1) (i + 1)
       midway-kept e Y y =
           record {
             passed = omega arith;
@@ -172,7 +172,7 @@ module _ (W : List ℕ) (from to n : ℕ) (P : Question) where
           }
         where
           width : ℕ
-          width = 1 + byte W at * 5
+          width = 1 + byte W at * 7
 
           w : remaining covers P (heldFrom W at (n - i)) ≡ this ∷ remaining covers P others
           w = without-is false e
@@ -234,7 +234,7 @@ module _ (W : List ℕ) (from to n : ℕ) (P : Question) where
             (sym as-wide) (midway-kept (judged b e ∙ t) Y)
 
       -- it stands within the array
-      pub within : at + (1 + getD X at 0 * 5) ≤ length X
+      pub within : at + (1 + getD X at 0 * 7) ≤ length X
       within = omega (arith, same-count, here .within, m .size)
 
       pub sound-part : SoundRecord stored (take (length X - at) (drop at X))

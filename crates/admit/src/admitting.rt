@@ -8,6 +8,7 @@ use super::Fate;
 use super::removing::remove_covered;
 use super::searching::member_covering;
 use super::working::append;
+use cover::VARIABLES;
 
 // "More than 8 atoms", "a 65th member".
 const ATOMS: u8 = 8;
@@ -26,7 +27,7 @@ pub fn admit(work: &mut [u8], filled: Extent, rewriting: &[u8], answers: u8) -> 
         (now (work .exit))
         r ⌝ }
 {
-    let mut map = [255u8; 64];
+    let mut map = [255u8; VARIABLES];
     if member_covering(work, filled.count, rewriting, &mut map) < filled.count {
         return Fate::Dropped;
     }

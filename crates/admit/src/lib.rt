@@ -7,6 +7,7 @@ mod searching;
 mod working;
 
 pub use admitting::admit;
+pub use searching::is_covered;
 pub use working::append;
 
 // "Offset of the first member (8)".

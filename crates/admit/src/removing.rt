@@ -23,7 +23,7 @@ fn keep_uncovered(work: &mut [u8], from: usize, to: usize, n: usize, rewriting: 
     let mut kept = 0;
     let mut i = 0;
     while i < n {
-        let width = cover::width(work[at]);
+        let width = records::width(work[at]);
         if !cover::covers_sound(rewriting, &work[at..]) {
             move_down(work, at, end, width);
             end += width;

@@ -1,33 +1,50 @@
 // The search for a member that covers a rewriting.
 ghost use mathlib.Core.Path.{_≡_};
+ghost use mathlib.Core.Bool.{cond};
 ghost use Prim.Native.Nat.{_≤_};
 ghost use lib.ListN.{replicate};
 ghost use Rattle.covering.specs.Search.{covers};
 ghost use Rattle.covering.specs.FirstMap.{mapOr};
 ghost use Rattle.covering.specs.Record.{stored, questionOf, SoundRecord};
+ghost use Rattle.records.specs.Relations.{areIn};
+ghost use Rattle.exploration.specs.Run.{covered};
 ghost use Rattle.exploration.specs.Union.{firstAt};
 ghost use Rattle.exploration.specs.Held.{heldFrom};
 ghost use Rattle.admit.specs.WorkingArray.{beforeCovering, coveredBy};
 ghost use Rattle.exploration.specs.Held.{Standing};
 use super::FIRST;
+use cover::VARIABLES;
+
+// Which of the w candidates for a member's first atom to begin with: the first, or, where a relation of the member does
+// not stand in the rewriting, so that it covers nothing there, the one after the last.
+fn first_asked(member: &[u8], there: u64, w: usize) -> usize
+    requires { ⌜ SoundRecord stored (now member) ⌝ }
+    ensures { λ r. ⌜ r ≡ cond (areIn there (questionOf stored (now (member .entry)))) 0 w ⌝ }
+{
+    if records::are_among(member, there) {
+        return 0;
+    }
+    w
+}
 
 // The number of the first of the count members that covers the rewriting, count where none does. One candidate for the
 // member's first atom is asked at a time, so that the search ends at the first that serves, and the map that it found is
-// handed up beside the number.
+// handed up beside the number. Of a member with a relation that does not stand in the rewriting none is asked.
 pub fn member_covering(work: &[u8], count: usize, rewriting: &[u8], map: &mut [u8]) -> usize
     requires { ⌜ (count ≤ 64)
         × Standing (now work) firstAt count
         × SoundRecord stored (now rewriting)
-        × (now map ≡ replicate 64 255) ⌝ }
+        × (now map ≡ replicate (stored .variables) 255) ⌝ }
     ensures { λ r. ⌜ (r
         ≡ beforeCovering covers
         (questionOf stored (now (rewriting .entry)))
         (heldFrom (now (work .entry)) firstAt count))
         × (now (map .exit)
-        ≡ mapOr 64
+        ≡ mapOr (stored .variables)
         (coveredBy (questionOf stored (now (rewriting .entry))) (heldFrom (now (work .entry)) firstAt count))) ⌝ }
 {
     let w = rewriting[0] as usize;
+    let there = records::relations(rewriting);
     let mut at = FIRST;
     let mut i = 0;
     let found = 'members: loop {
@@ -38,9 +55,9 @@ pub fn member_covering(work: &[u8], count: usize, rewriting: &[u8], map: &mut [u
         if work[at] == 0 {
             break 'members i;
         }
-        let width = cover::width(work[at]);
+        let width = records::width(work[at]);
         let member = &work[at..];
-        let mut k = 0;
+        let mut k = first_asked(member, there, w);
         'atoms: loop {
             if w <= k {
                 break 'atoms;
@@ -54,4 +71,16 @@ pub fn member_covering(work: &[u8], count: usize, rewriting: &[u8], map: &mut [u
         i += 1;
     };
     found
+}
+
+// Whether one of the count members covers the question.
+pub fn is_covered(work: &[u8], count: usize, question: &[u8]) -> bool
+    requires { ⌜ (count ≤ 64) × Standing (now work) firstAt count × SoundRecord stored (now question) ⌝ }
+    ensures { λ r. ⌜ r
+        ≡ covered covers
+        (questionOf stored (now (question .entry)))
+        (heldFrom (now (work .entry)) firstAt count) ⌝ }
+{
+    let mut map = [255u8; VARIABLES];
+    member_covering(work, count, question, &mut map) < count
 }

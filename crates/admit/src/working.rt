@@ -14,7 +14,7 @@ pub fn append(work: &mut [u8], len: usize, member: &[u8]) -> usize
         ≡ take len (now (work .entry))
         ++ (recordBytes stored (questionOf stored (now (member .entry))) ++ drop r (now (work .entry)))) ⌝ }
 {
-    let width = cover::width(member[0]);
+    let width = records::width(member[0]);
     let mut i = 0;
     while i < width {
         work[len + i] = member[i];
@@ -23,13 +23,17 @@ pub fn append(work: &mut [u8], len: usize, member: &[u8]) -> usize
     len + width
 }
 
-// Moves the width bytes at `from` down to `to`. Each is read before it is written over, since it goes no higher.
+// Moves the width bytes at `from` down to `to`, if they do not stand there already. Each is read before it is written
+// over, since it goes no higher.
 pub fn move_down(work: &mut [u8], from: usize, to: usize, width: usize)
     requires { ⌜ (to ≤ from) × (from + width ≤ length (now work)) ⌝ }
     ensures { λ r. ⌜ now (work .exit)
         ≡ take to (now (work .entry))
         ++ (take width (drop from (now (work .entry))) ++ drop (to + width) (now (work .entry))) ⌝ }
 {
+    if to == from {
+        return;
+    }
     let mut i = 0;
     while i < width {
         work[to + i] = work[from + i];

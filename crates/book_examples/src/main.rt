@@ -2,12 +2,17 @@
 mod books;
 
 ghost use Prim.Native.Nat.{_+_, _<_, _≤_};
+ghost use mathlib.Core.Path.{_≡_};
 ghost use lib.ListN.{length};
+ghost use Rattle.reading.specs.Header.{formOf, new};
+ghost use Rattle.reading.specs.Verdict.{SoundBook};
 use books::asked;
 use books::bare;
 use books::sample;
 use books::small;
 use covering::RECORD;
+use forms::BOOK;
+use forms::to_new;
 use libc::STDOUT_FILENO;
 
 fn put(text: &[u8]) {
@@ -39,7 +44,7 @@ fn tell(name: &[u8], book: &[u8]) {
 
 // Where the body and the head of the rule at s stand.
 fn show_rule(book: &[u8], s: usize)
-    requires { ⌜ s + 2 ≤ length (now book) ⌝ }
+    requires { ⌜ (s + 2 ≤ length (now book)) × (formOf (now book) ≡ new) ⌝ }
 {
     let r = book::rule_at(book, s);
     put(b"rule at ");
@@ -69,12 +74,20 @@ fn show_record(r: &[u8; RECORD]) {
     put(b"\n");
 }
 
-// What the readers give of a book that is sound.
+// What the readers give of a book, as it is in the new form, where it is sound.
 fn show(book: &[u8]) {
-    let r = book::check(book);
-    if r.number != 0 {
+    let mut wide = [0u8; BOOK];
+    let copy = to_new(book, &mut wide);
+    if copy.number != 0 {
         return;
     }
+    show_new(&wide[..copy.place]);
+}
+
+// The same of a sound book in the new form.
+fn show_new(book: &[u8])
+    requires { ⌜ SoundBook (now book) × (formOf (now book) ≡ new) ⌝ }
+{
     let h = book::read(book);
     let n = h.rules;
     let at = book::starts(book);

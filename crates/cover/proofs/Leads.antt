@@ -52,18 +52,18 @@ module _ (f : Term → Bool) (F : List ℕ) (i left : ℕ) where
   terms-none e = rw (atoms-none stored F i left e) refl
 
   terms-step : 0 < left
-      → within ≡ (any f (argsAt F (i + 1) 4) || any f (terms (atomsAt stored F (i + 5) (left - 1))))
+      → within ≡ (any f (argsAt F (i + 1) 6) || any f (terms (atomsAt stored F (i + 7) (left - 1))))
   unfolding atomAt
   terms-step h =
       ap (λ A. any f (terms A)) (atoms-more stored F i left h)
-      ∙ any-append f (argsAt F (i + 1) 4) (terms (atomsAt stored F (i + 5) (left - 1)))
+      ∙ any-append f (argsAt F (i + 1) 6) (terms (atomsAt stored F (i + 7) (left - 1)))
 
-  pub terms-hit : 0 < left → any f (argsAt F (i + 1) 4) ≡ true → within ≡ true
-  terms-hit h e = terms-step h ∙ ap (λ b. b || any f (terms (atomsAt stored F (i + 5) (left - 1)))) e
+  pub terms-hit : 0 < left → any f (argsAt F (i + 1) 6) ≡ true → within ≡ true
+  terms-hit h e = terms-step h ∙ ap (λ b. b || any f (terms (atomsAt stored F (i + 7) (left - 1)))) e
 
-  pub terms-miss : 0 < left → any f (argsAt F (i + 1) 4) ≡ false
-      → within ≡ any f (terms (atomsAt stored F (i + 5) (left - 1)))
-  terms-miss h e = terms-step h ∙ ap (λ b. b || any f (terms (atomsAt stored F (i + 5) (left - 1)))) e
+  pub terms-miss : 0 < left → any f (argsAt F (i + 1) 6) ≡ false
+      → within ≡ any f (terms (atomsAt stored F (i + 7) (left - 1)))
+  terms-miss h e = terms-step h ∙ ap (λ b. b || any f (terms (atomsAt stored F (i + 7) (left - 1)))) e
 
 pub and-no : (a b : Bool) → a ≡ false → (a && b) ≡ false
 and-no a b e = rw e refl

@@ -8,13 +8,14 @@ use Prim.Native.Nat.{ℕ, zero, suc, _+_, _-_, _≤_, _<_}
 use native.Mathlib.Omega.{arith}
 use borrow.Author.Tests.{eqb-true, eqb-false, eq-eqb, ne-eqb}
 use lib.Dec.{eqb}
-use lib.ListN.{length, getD, set, replicate, length-replicate}
+use lib.ListN.{length, getD, set, take, replicate, length-replicate}
 use lib.Seq.{getD-set-same, getD-set-other}
 use Rattle.covering.specs.Lists.{isSome, numbers}
 use Rattle.covering.specs.Search.{Part, nowhere, also, placeTerm, placeTerms, placeAtom}
 use Rattle.covering.specs.Record.{Layout, termOf, byteOf, argsAt, atomAt}
 use Rattle.cover.specs.HeldMap.{partOf, said, Searched}
 use Rattle.covering.specs.FirstMap.{goesByte, mapBytes, mapOr}
+use Rattle.covering.specs.Desk.{mapSize}
 use Rattle.covering.proofs.Tests.{either, le-or-lt}
 use Rattle.covering.proofs.Bytes.{term-same, term-var, term-con, args-more, args-end}
 
@@ -145,10 +146,16 @@ map-held m k e =
     (λ j lt. ap (λ v. goesByte (partOf m v)) (omega arith) ∙ goes-back m j lt))
 
 -- what a search from nowhere leaves
-pub searched-map : (o : Option Part) (m : List ℕ) (r : Bool) → length m ≡ 64 → Searched o (replicate 64 255) m r
-    → m ≡ mapOr 64 o
-searched-map o m true l s = sym (map-held m 64 l) ∙ ap (mapOr 64) (s .finds)
-searched-map o m false l s = s .back refl ∙ ap (mapOr 64) (s .finds)
+pub searched-map : (o : Option Part) (m : List ℕ) (r : Bool) → length m ≡ 96 → Searched o (replicate 96 255) m r
+    → m ≡ mapOr 96 o
+searched-map o m true l s = sym (map-held m 96 l) ∙ ap (mapOr 96) (s .finds)
+searched-map o m false l s = s .back refl ∙ ap (mapOr 96) (s .finds)
+
+-- of which the desk gives the first bytes
+pub front-map : (o : Option Part) → take mapSize (mapOr 96 o) ≡ mapOr mapSize o
+unfolding mapBytes
+front-map none = refl
+front-map (some p) = refl
 
 -- no variable goes anywhere
 pub nowhere-map : (k : ℕ) → mapBytes k nowhere ≡ replicate k 255

@@ -43,7 +43,7 @@ unfolding isTerm
 no-term = refl
 
 -- w places of which j are passed: where all can be sent, they are
-module _ (m F S : List ℕ) (i k w : ℕ) (l : length m ≡ 64) where
+module _ (m F S : List ℕ) (i k w : ℕ) (l : length m ≡ 96) where
   abbrev sent : ℕ → List ℕ
   sent j = sentTo m F S i k j
 
@@ -124,20 +124,20 @@ module _ (m F S : List ℕ) (i k w : ℕ) (l : length m ≡ 64) where
       ends onward (inr a) (inr b) = going-on onward (eqb-false _ _ a) (eqb-false _ _ b) (either (isSome step))
 
 -- an atom that can be placed is placed by sending its places
-pub atom-placed : (m F S : List ℕ) (i k : ℕ) → length m ≡ 64 → T (isAtom stored F i)
+pub atom-placed : (m F S : List ℕ) (i k : ℕ) → length m ≡ 96 → T (isAtom stored F i)
     → T (isSome (placeAtom (partOf m) (atomAt stored F i) (atomAt stored S k)))
-    → placeAtom (partOf m) (atomAt stored F i) (atomAt stored S k) ≡ some (partOf (sentTo m F S (i + 1) (k + 1) 4))
+    → placeAtom (partOf m) (atomAt stored F i) (atomAt stored S k) ≡ some (partOf (sentTo m F S (i + 1) (k + 1) 6))
 unfolding sentTo
 atom-placed m F S i k l sound s = go (either (eqb (getD F i 0) (getD S k 0)))
   where
     go : (eqb (getD F i 0) (getD S k 0) ≡ true) ⊎ (eqb (getD F i 0) (getD S k 0) ≡ false)
-        → placeAtom (partOf m) (atomAt stored F i) (atomAt stored S k) ≡ some (partOf (sentTo m F S (i + 1) (k + 1) 4))
+        → placeAtom (partOf m) (atomAt stored F i) (atomAt stored S k) ≡ some (partOf (sentTo m F S (i + 1) (k + 1) 6))
     go (inl b) =
         let meet = atoms-meet stored F S i k (partOf m) (eqb-true _ _ b) in
-        let all = sent-all m F S (i + 1) (k + 1) 4 l 4 0 refl in
-        let used : T (usedFirst stored F (i + 1 + 0) 4) = rw add-zero (atom-used stored F i sound) in
-        let at-start : placeTerms (partOf m) (argsAt F (i + 1 + 0) 4) (argsAt S (k + 1 + 0) 4)
-        ≡ placeTerms (partOf m) (argsAt F (i + 1) 4) (argsAt S (k + 1) 4)
+        let all = sent-all m F S (i + 1) (k + 1) 6 l 6 0 refl in
+        let used : T (usedFirst stored F (i + 1 + 0) 6) = rw add-zero (atom-used stored F i sound) in
+        let at-start : placeTerms (partOf m) (argsAt F (i + 1 + 0) 6) (argsAt S (k + 1 + 0) 6)
+        ≡ placeTerms (partOf m) (argsAt F (i + 1) 6) (argsAt S (k + 1) 6)
         = rw (add-zero, add-zero) refl in
         meet ∙ sym at-start ∙ all used (subst (λ o. T (isSome o)) (meet ∙ sym at-start) s)
     go (inr b) =

@@ -6,7 +6,7 @@ use mathlib.Core.List.{List}
 use mathlib.Core.Option.{Option, none, some}
 use Prim.Native.Nat.{ℕ, _+_, _-_, _<_}
 use lib.ListN.{getD}
-use Rattle.covering.specs.Lists.{all, isSome}
+use Rattle.covering.specs.Lists.{isSome}
 use Rattle.covering.specs.Term.{Atom, Question}
 use Rattle.covering.specs.Search.{Part, placeAtom, findMap}
 use Rattle.cover.specs.Candidates.{placedOn, foundOn, tried, hasCandidate}
@@ -50,7 +50,7 @@ module _ (a : Atom) (A B : Question) (p : Part) (b : Atom) where
   unfolding placedOn
   on-apart e = rw e
 
--- the look-ahead, a candidate and an atom at a time
+-- the look-ahead, a candidate at a time
 module _ (L : Layout) (S : List ℕ) (k more : ℕ) (p : Part) (a : Atom) where
   pub candidate-none : more ≡ 0 → hasCandidate p (atomsAt L S k more) a ≡ false
   unfolding hasCandidate
@@ -65,17 +65,6 @@ module _ (L : Layout) (S : List ℕ) (k more : ℕ) (p : Part) (a : Atom) where
       → hasCandidate p (atomsAt L S k more) a ≡ hasCandidate p (atomsAt L S (k + size L) (more - 1)) a
   unfolding hasCandidate
   candidate-miss h e = rw (atoms-more L S k more h, e)
-
-module _ (L : Layout) (F : List ℕ) (i left : ℕ) (f : Atom → Bool) where
-  pub each-none : left ≡ 0 → all f (atomsAt L F i left) ≡ true
-  each-none e = rw (atoms-none L F i left e)
-
-  pub each-fails : 0 < left → f (atomAt L F i) ≡ false → all f (atomsAt L F i left) ≡ false
-  each-fails h e = rw (atoms-more L F i left h, e)
-
-  pub each-passes : 0 < left → f (atomAt L F i) ≡ true
-      → all f (atomsAt L F i left) ≡ all f (atomsAt L F (i + size L) (left - 1))
-  each-passes h e = rw (atoms-more L F i left h, e)
 
 -- the first atom on one candidate
 pub on-candidate : (L : Layout) (F S : List ℕ) (k : ℕ) (p : Part) → 0 < getD F 0 0

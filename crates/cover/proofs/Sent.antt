@@ -31,25 +31,25 @@ set-same (x ∷ m) (suc t) = ap (λ l. x ∷ l) (set-same m t)
 
 -- the ways of one place
 module _ (m : List ℕ) (t u : ℕ) where
-  pub put-new : t < 64 → getD m t 0 ≡ 255 → put m t u ≡ set m t u
+  pub put-new : t < 96 → getD m t 0 ≡ 255 → put m t u ≡ set m t u
   unfolding put
-  put-new v e = rw (lt-ltb t 64 v, eq-eqb (getD m t 0) 255 e)
+  put-new v e = rw (lt-ltb t 96 v, eq-eqb (getD m t 0) 255 e)
 
   pub put-old : (getD m t 0 ≡ 255 → ⊥) → put m t u ≡ m
   unfolding put
-  put-old f = go (ltb t 64)
+  put-old f = go (ltb t 96)
     where
       go : (b : Bool) → cond (b && eqb (getD m t 0) 255) (set m t u) m ≡ m
       go true = rw (ne-eqb (getD m t 0) 255 f)
       go false = refl
 
-  pub put-constant : 64 ≤ t → put m t u ≡ m
+  pub put-constant : 96 ≤ t → put m t u ≡ m
   unfolding put
-  put-constant h = rw (le-ltb t 64 h)
+  put-constant h = rw (le-ltb t 96 h)
 
   pub length-put : length (put m t u) ≡ length m
   unfolding put
-  length-put = go (ltb t 64 && eqb (getD m t 0) 255)
+  length-put = go (ltb t 96 && eqb (getD m t 0) 255)
     where
       go : (b : Bool) → length (cond b (set m t u) m) ≡ length m
       go true = length-set m t u
@@ -58,7 +58,7 @@ module _ (m : List ℕ) (t u : ℕ) where
   -- another variable's byte stays
   pub put-other : (n : ℕ) → (t ≡ n → ⊥) → getD (put m t u) n 0 ≡ getD m n 0
   unfolding put
-  put-other n f = go (ltb t 64 && eqb (getD m t 0) 255)
+  put-other n f = go (ltb t 96 && eqb (getD m t 0) 255)
     where
       go : (b : Bool) → getD (cond b (set m t u) m) n 0 ≡ getD m n 0
       go true = getD-set-other m t n u 0 (λ e. f (sym e))
@@ -73,7 +73,7 @@ module _ (m : List ℕ) (t u : ℕ) where
       go (inr e) = put-other n (eqb-false t n e)
 
   -- what was put is taken back by writing what was there
-  pub put-back : t < 64 → set (put m t u) t (getD m t 0) ≡ m
+  pub put-back : t < 96 → set (put m t u) t (getD m t 0) ≡ m
   put-back v = go (either (eqb (getD m t 0) 255))
     where
       go : (eqb (getD m t 0) 255 ≡ true) ⊎ (eqb (getD m t 0) 255 ≡ false) → set (put m t u) t (getD m t 0) ≡ m
@@ -81,15 +81,15 @@ module _ (m : List ℕ) (t u : ℕ) where
       go (inr e) = ap (λ l. set l t (getD m t 0)) (put-old (eqb-false _ _ e)) ∙ set-same m t
 
   -- a place that can be sent is sent
-  pub term-sends : length m ≡ 64 → (64 ≤ t → 128 ≤ t) → (u ≡ 255 → ⊥)
+  pub term-sends : length m ≡ 96 → (96 ≤ t → 128 ≤ t) → (u ≡ 255 → ⊥)
       → T (isSome (placeTerm (partOf m) (termOf t) (termOf u)))
       → placeTerm (partOf m) (termOf t) (termOf u) ≡ some (partOf (put m t u))
-  term-sends l c f s = go (le-or-lt 64 t) (either (eqb (getD m t 0) 255))
+  term-sends l c f s = go (le-or-lt 96 t) (either (eqb (getD m t 0) 255))
     where
       held : (b : Bool) → T (isSome (cond b (some (partOf m)) none)) → cond b (some (partOf m)) none ≡ some (partOf m)
       held true x = refl
 
-      go : (64 ≤ t) ⊎ (t < 64) → (eqb (getD m t 0) 255 ≡ true) ⊎ (eqb (getD m t 0) 255 ≡ false)
+      go : (96 ≤ t) ⊎ (t < 96) → (eqb (getD m t 0) 255 ≡ true) ⊎ (eqb (getD m t 0) 255 ≡ false)
           → placeTerm (partOf m) (termOf t) (termOf u) ≡ some (partOf (put m t u))
       go (inl h) b =
           let e = place-constant m t u (c h) in
@@ -140,7 +140,7 @@ module _ (m F S : List ℕ) (i k : ℕ) where
       ap (λ n. getD (W n) t 0) e ∙ sent-keeps t 0 j f
 
   -- one that goes nowhere yet goes where its first place is sent
-  pub sent-first : (t n j : ℕ) → n < j → t < 64 → length m ≡ 64 → getD F (i + n) 0 ≡ t → getD (W n) t 0 ≡ 255
+  pub sent-first : (t n j : ℕ) → n < j → t < 96 → length m ≡ 96 → getD F (i + n) 0 ≡ t → getD (W n) t 0 ≡ 255
       → (getD S (k + n) 0 ≡ 255 → ⊥) → getD (W j) t 0 ≡ getD S (k + n) 0
   sent-first t n j lt v l e free used =
       let there : getD (W (n + 1)) t 0 ≡ getD S (k + n) 0 = at-once in
@@ -164,7 +164,7 @@ module _ (m F S : List ℕ) (i k : ℕ) where
   pub back-whole : (j : ℕ) (h : List ℕ) → HadBefore m F S i k j h → takenBack (W j) F i h j ≡ m
   unfolding sentTo takenBack
   back-whole zero h b = refl
-  back-whole (suc j) h b = ap (λ l. takenBack l F i h j) (go (either (ltb t 64))) ∙ back-whole j h less
+  back-whole (suc j) h b = ap (λ l. takenBack l F i h j) (go (either (ltb t 96))) ∙ back-whole j h less
     where
       t : ℕ
       t = getD F (i + j) 0
@@ -172,29 +172,29 @@ module _ (m F S : List ℕ) (i k : ℕ) where
       less : HadBefore m F S i k j h
       less = record { room = b .room; had = λ n lt v. b .had n (omega arith) v }
 
-      go : (ltb t 64 ≡ true) ⊎ (ltb t 64 ≡ false)
-          → cond (ltb t 64) (set (W (suc j)) t (getD h j 0)) (W (suc j)) ≡ W j
+      go : (ltb t 96 ≡ true) ⊎ (ltb t 96 ≡ false)
+          → cond (ltb t 96) (set (W (suc j)) t (getD h j 0)) (W (suc j)) ≡ W j
       go (inl e) =
-          rw (e, b .had j (omega arith) (ltb-true t 64 e)) (put-back (W j) t (getD S (k + j) 0) (ltb-true t 64 e))
-      go (inr e) = rw e (put-constant (W j) t (getD S (k + j) 0) (ltb-false t 64 e))
+          rw (e, b .had j (omega arith) (ltb-true t 96 e)) (put-back (W j) t (getD S (k + j) 0) (ltb-true t 96 e))
+      go (inr e) = rw e (put-constant (W j) t (getD S (k + j) 0) (ltb-false t 96 e))
 
-  pub had-none : (h : List ℕ) → length h ≡ 4 → HadBefore m F S i k 0 h
+  pub had-none : (h : List ℕ) → length h ≡ 6 → HadBefore m F S i k 0 h
   had-none h e = record { room = e; had = λ n lt v. absurd (omega arith) }
 
   -- one more place, and what the map had for it
-  pub had-more : (j : ℕ) (h : List ℕ) (x : ℕ) → j < 4 → HadBefore m F S i k j h
-      → x ≡ cond (ltb (getD F (i + j) 0) 64) (getD (W j) (getD F (i + j) 0) 0) 255
+  pub had-more : (j : ℕ) (h : List ℕ) (x : ℕ) → j < 6 → HadBefore m F S i k j h
+      → x ≡ cond (ltb (getD F (i + j) 0) 96) (getD (W j) (getD F (i + j) 0) 0) 255
       → HadBefore m F S i k (j + 1) (set h j x)
   had-more j h x lt b e = record { room = length-set h j x ∙ b .room; had = λ n l v. go n l v (either (eqb n j)) }
     where
-      go : (n : ℕ) → n < j + 1 → getD F (i + n) 0 < 64 → (eqb n j ≡ true) ⊎ (eqb n j ≡ false)
+      go : (n : ℕ) → n < j + 1 → getD F (i + n) 0 < 96 → (eqb n j ≡ true) ⊎ (eqb n j ≡ false)
           → getD (set h j x) n 0 ≡ getD (W n) (getD F (i + n) 0) 0
       go n l v (inl q) =
           let same = eqb-true n j q in
           rw same
           (getD-set-same h j x 0 (let r = b .room in omega arith)
           ∙ e
-          ∙ rw (lt-ltb (getD F (i + j) 0) 64 (subst (λ y. getD F (i + y) 0 < 64) same v)) refl)
+          ∙ rw (lt-ltb (getD F (i + j) 0) 96 (subst (λ y. getD F (i + y) 0 < 96) same v)) refl)
       go n l v (inr q) =
           let other = eqb-false n j q in
           getD-set-other h j n x 0 other ∙ b .had n (omega arith) v
@@ -205,16 +205,16 @@ module _ (m F : List ℕ) (i : ℕ) (h : List ℕ) (left : ℕ) where
   unfolding takenBack
   back-none e = rw (e, takenBack) refl
 
-  pub back-writes : 0 < left → getD F (i + (left - 1)) 0 < 64
+  pub back-writes : 0 < left → getD F (i + (left - 1)) 0 < 96
       → takenBack m F i h left
       ≡ takenBack (set m (getD F (i + (left - 1)) 0) (getD h (left - 1) 0)) F i h (left - 1)
   unfolding takenBack
   back-writes lt v =
       let e : left ≡ suc (left - 1) = omega arith in
-      ap (takenBack m F i h) e ∙ rw (takenBack, lt-ltb (getD F (i + (left - 1)) 0) 64 v) refl
+      ap (takenBack m F i h) e ∙ rw (takenBack, lt-ltb (getD F (i + (left - 1)) 0) 96 v) refl
 
-  pub back-passes : 0 < left → 64 ≤ getD F (i + (left - 1)) 0 → takenBack m F i h left ≡ takenBack m F i h (left - 1)
+  pub back-passes : 0 < left → 96 ≤ getD F (i + (left - 1)) 0 → takenBack m F i h left ≡ takenBack m F i h (left - 1)
   unfolding takenBack
   back-passes lt v =
       let e : left ≡ suc (left - 1) = omega arith in
-      ap (takenBack m F i h) e ∙ rw (takenBack, le-ltb (getD F (i + (left - 1)) 0) 64 v) refl
+      ap (takenBack m F i h) e ∙ rw (takenBack, le-ltb (getD F (i + (left - 1)) 0) 96 v) refl

@@ -30,8 +30,8 @@ module _ (F S m : List ℕ) (i k : ℕ) (A B : Question) where
   not-met e = not-found on m (on-apart _ A B (partOf m) _ (not-some _ e))
 
   -- it is met, and the atoms left say r
-  module _ (size : length m ≡ 64) (sound : T (isAtom stored F i)) (e : meets ≡ true) (came gone : List ℕ) (r : Bool)
-      (put : came ≡ sentTo m F S (i + 1) (k + 1) 4) (s : Searched (findMap A B (partOf came)) came gone r) where
+  module _ (size : length m ≡ 96) (sound : T (isAtom stored F i)) (e : meets ≡ true) (came gone : List ℕ) (r : Bool)
+      (put : came ≡ sentTo m F S (i + 1) (k + 1) 6) (s : Searched (findMap A B (partOf came)) came gone r) where
     rest-says : (b : Bool) → r ≡ b → on ≡ said b gone
     rest-says b q =
         on-placed _ A B (partOf m) _ (atom-placed m F S i k size sound (true→T _ e) ∙ ap (λ x. some (partOf x)) (sym put))
@@ -43,12 +43,12 @@ module _ (F S m : List ℕ) (i k : ℕ) (A B : Question) where
     serves q = found on m gone (sym (rest-says true q))
 
     -- they are not, and the atom is taken back
-    pub taken-back : (h back : List ℕ) → r ≡ false → HadBefore m F S (i + 1) (k + 1) 4 h
-        → back ≡ takenBack gone F (i + 1) h 4 → Searched on m back false
+    pub taken-back : (h back : List ℕ) → r ≡ false → HadBefore m F S (i + 1) (k + 1) 6 h
+        → back ≡ takenBack gone F (i + 1) h 6 → Searched on m back false
     taken-back h back q had b =
         record {
           finds = sym (rest-says false q);
           back = λ t. b
-              ∙ ap (λ x. takenBack x F (i + 1) h 4) (s .back q ∙ put)
-              ∙ back-whole m F S (i + 1) (k + 1) 4 h had;
+              ∙ ap (λ x. takenBack x F (i + 1) h 6) (s .back q ∙ put)
+              ∙ back-whole m F S (i + 1) (k + 1) 6 h had;
         }

@@ -15,7 +15,7 @@ partOf m n = let b = getD m n 255 in cond (eqb b 255) none (some (termOf b))
 
 -- the byte t, where it is a variable that goes nowhere yet, goes to u from now on
 unfoldable pub put : List ℕ → ℕ → ℕ → List ℕ
-put m t u = cond (ltb t 64 && eqb (getD m t 0) 255) (set m t u) m
+put m t u = cond (ltb t 96 && eqb (getD m t 0) 255) (set m t u) m
 
 -- the map m after j places of F from i on were sent to those of S from k on
 unfoldable pub sentTo : List ℕ → List ℕ → List ℕ → ℕ → ℕ → ℕ → List ℕ
@@ -24,15 +24,15 @@ sentTo m F S i k (suc j) = put (sentTo m F S i k j) (getD F (i + j) 0) (getD S (
 
 -- h has, for each of the j places that is a variable, where it went just before it was sent
 pub record HadBefore (m F S : List ℕ) (i k j : ℕ) (h : List ℕ) : Type 0 where
-  pub room : length h ≡ 4
-  pub had : (n : ℕ) → n < j → getD F (i + n) 0 < 64 → getD h n 0 ≡ getD (sentTo m F S i k n) (getD F (i + n) 0) 0
+  pub room : length h ≡ 6
+  pub had : (n : ℕ) → n < j → getD F (i + n) 0 < 96 → getD h n 0 ≡ getD (sentTo m F S i k n) (getD F (i + n) 0) 0
 
 -- the last of j places taken back first: each variable of F's goes again where h has it
 unfoldable pub takenBack : List ℕ → List ℕ → ℕ → List ℕ → ℕ → List ℕ
 takenBack m F i h zero = m
 takenBack m F i h (suc j) =
     let t = getD F (i + j) 0 in
-    takenBack (cond (ltb t 64) (set m t (getD h j 0)) m) F i h j
+    takenBack (cond (ltb t 96) (set m t (getD h j 0)) m) F i h j
 
 -- what a search says: the map as it is now, or that there is none
 abbrev pub said : Bool → List ℕ → Option Part

@@ -12,8 +12,8 @@ ghost use Rattle.cover.specs.HeldMap.{partOf, put, sentTo, HadBefore, ta
 
 // Where the variable t goes once j places of first from i on are sent to those of second from k on: 255 for nowhere.
 fn goes_to(first: &[u8], second: &[u8], map: &[u8], i: usize, k: usize, j: usize, t: u8) -> u8
-    requires { ⌜ (t < 64)
-        × (length (now map) ≡ 64)
+    requires { ⌜ (t < 96)
+        × (length (now map) ≡ 96)
         × (i + j ≤ length (now first))
         × (k + j ≤ length (now second))
         × ((n : ℕ) → n < j → getD (now second) (k + n) 0 ≡ 255 → ⊥) ⌝ }
@@ -36,12 +36,12 @@ fn goes_to(first: &[u8], second: &[u8], map: &[u8], i: usize, k: usize, j: usize
 
 // Whether the j-th place of first from i on, a term, can be sent to that of second from k on, after those before it.
 fn term_meets(first: &[u8], second: &[u8], map: &[u8], i: usize, k: usize, j: usize) -> bool
-    requires { ⌜ (length (now map) ≡ 64)
+    requires { ⌜ (length (now map) ≡ 96)
         × (i + j < length (now first))
         × (k + j < length (now second))
         × ((n : ℕ) → n < j → getD (now second) (k + n) 0 ≡ 255 → ⊥)
         × (getD (now second) (k + j) 0 ≡ 255 → ⊥)
-        × (64 ≤ getD (now first) (i + j) 0 → 128 ≤ getD (now first) (i + j) 0) ⌝ }
+        × (96 ≤ getD (now first) (i + j) 0 → 128 ≤ getD (now first) (i + j) 0) ⌝ }
     ensures { λ r. ⌜ r
         ≡ isSome
         (placeTerm
@@ -51,7 +51,7 @@ fn term_meets(first: &[u8], second: &[u8], map: &[u8], i: usize, k: usize, j: us
 {
     let t = first[i + j];
     let u = second[k + j];
-    if 64 <= t {
+    if 96 <= t {
         return t == u;
     }
     let goes = goes_to(first, second, map, i, k, j, t);
@@ -63,19 +63,19 @@ fn term_meets(first: &[u8], second: &[u8], map: &[u8], i: usize, k: usize, j: us
 
 // Whether the used places of first from i on can be sent to those of second from k on: as many, each to its own.
 fn terms_meet(first: &[u8], second: &[u8], map: &[u8], i: usize, k: usize) -> bool
-    requires { ⌜ (length (now map) ≡ 64)
-        × (i + 4 ≤ length (now first))
-        × (k + 4 ≤ length (now second))
-        × T (usedFirst stored (now first) i 4) ⌝ }
+    requires { ⌜ (length (now map) ≡ 96)
+        × (i + 6 ≤ length (now first))
+        × (k + 6 ≤ length (now second))
+        × T (usedFirst stored (now first) i 6) ⌝ }
     ensures { λ r. ⌜ r
         ≡ isSome
         (placeTerms
         (partOf (now (map .entry)))
-        (argsAt (now (first .entry)) i 4)
-        (argsAt (now (second .entry)) k 4)) ⌝ }
+        (argsAt (now (first .entry)) i 6)
+        (argsAt (now (second .entry)) k 6)) ⌝ }
 {
     let mut j = 0;
-    while j < 4 {
+    while j < 6 {
         if first[i + j] == 255 {
             return second[k + j] == 255;
         }
@@ -92,9 +92,9 @@ fn terms_meet(first: &[u8], second: &[u8], map: &[u8], i: usize, k: usize) -> bo
 
 // Whether the atom of first at i can be placed on the atom of second at k, as the map is now.
 pub fn meets(first: &[u8], second: &[u8], map: &[u8], i: usize, k: usize) -> bool
-    requires { ⌜ (length (now map) ≡ 64)
-        × (i + 5 ≤ length (now first))
-        × (k + 5 ≤ length (now second))
+    requires { ⌜ (length (now map) ≡ 96)
+        × (i + 7 ≤ length (now first))
+        × (k + 7 ≤ length (now second))
         × T (isAtom stored (now first) i) ⌝ }
     ensures { λ r. ⌜ r
         ≡ isSome
@@ -111,11 +111,11 @@ pub fn meets(first: &[u8], second: &[u8], map: &[u8], i: usize, k: usize) -> boo
 
 // Sends t, where it is a variable that goes nowhere yet, to u. Gives what the map had for it, 255 for a constant.
 fn send_term(map: &mut [u8], t: u8, u: u8) -> u8
-    requires { ⌜ length (now map) ≡ 64 ⌝ }
+    requires { ⌜ length (now map) ≡ 96 ⌝ }
     ensures { λ r. ⌜ (now (map .exit) ≡ put (now (map .entry)) t u)
-        × (r ≡ cond (ltb t 64) (getD (now (map .entry)) t 0) 255) ⌝ }
+        × (r ≡ cond (ltb t 96) (getD (now (map .entry)) t 0) 255) ⌝ }
 {
-    if 64 <= t {
+    if 96 <= t {
         return 255;
     }
     let at = t as usize;
@@ -128,15 +128,15 @@ fn send_term(map: &mut [u8], t: u8, u: u8) -> u8
 
 // Sends the places of first from i on to those of second from k on, where they meet. Gives what the map had for each,
 // to take back to.
-pub fn send(first: &[u8], second: &[u8], map: &mut [u8], i: usize, k: usize) -> [u8; 4]
-    requires { ⌜ (length (now map) ≡ 64) × (i + 4 ≤ length (now first)) × (k + 4 ≤ length (now second)) ⌝ }
+pub fn send(first: &[u8], second: &[u8], map: &mut [u8], i: usize, k: usize) -> [u8; 6]
+    requires { ⌜ (length (now map) ≡ 96) × (i + 6 ≤ length (now first)) × (k + 6 ≤ length (now second)) ⌝ }
     ensures { λ r. ⌜ (now (map .exit)
-        ≡ sentTo (now (map .entry)) (now (first .entry)) (now (second .entry)) i k 4)
-        × HadBefore (now (map .entry)) (now (first .entry)) (now (second .entry)) i k 4 r ⌝ }
+        ≡ sentTo (now (map .entry)) (now (first .entry)) (now (second .entry)) i k 6)
+        × HadBefore (now (map .entry)) (now (first .entry)) (now (second .entry)) i k 6 r ⌝ }
 {
-    let mut before = [255u8; 4];
+    let mut before = [255u8; 6];
     let mut j = 0;
-    while j < 4 {
+    while j < 6 {
         before[j] = send_term(map, first[i + j], second[k + j]);
         j += 1;
     }
@@ -144,15 +144,15 @@ pub fn send(first: &[u8], second: &[u8], map: &mut [u8], i: usize, k: usize) -> 
 }
 
 // Takes the places of first from i on back to what the map had before they were sent, the last first.
-pub fn take_back(first: &[u8], map: &mut [u8], i: usize, before: [u8; 4])
-    requires { ⌜ (length (now map) ≡ 64) × (i + 4 ≤ length (now first)) ⌝ }
-    ensures { λ _. ⌜ now (map .exit) ≡ takenBack (now (map .entry)) (now (first .entry)) i before 4 ⌝ }
+pub fn take_back(first: &[u8], map: &mut [u8], i: usize, before: [u8; 6])
+    requires { ⌜ (length (now map) ≡ 96) × (i + 6 ≤ length (now first)) ⌝ }
+    ensures { λ _. ⌜ now (map .exit) ≡ takenBack (now (map .entry)) (now (first .entry)) i before 6 ⌝ }
 {
-    let mut left = 4;
+    let mut left = 6;
     while 0 < left {
         left -= 1;
         let t = first[i + left];
-        if t < 64 {
+        if t < 96 {
             map[t as usize] = before[left];
         }
     }

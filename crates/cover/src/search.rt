@@ -19,10 +19,10 @@ ghost use Rattle.covering.specs.Buffer.{AtomsIn};
 
 // Whether the atom of first at i can be placed on one of the w atoms of second, as the map is now.
 fn has_candidate(first: &[u8], second: &[u8], map: &[u8], i: usize, w: usize) -> bool
-    requires { ⌜ (length (now map) ≡ 64)
-        × (i + 5 ≤ length (now first))
+    requires { ⌜ (length (now map) ≡ 96)
+        × (i + 7 ≤ length (now first))
         × T (isAtom stored (now first) i)
-        × (1 + w * 5 ≤ length (now second)) ⌝ }
+        × (1 + w * 7 ≤ length (now second)) ⌝ }
     ensures { λ r. ⌜ r
         ≡ hasCandidate
         (partOf (now (map .entry)))
@@ -35,7 +35,7 @@ fn has_candidate(first: &[u8], second: &[u8], map: &[u8], i: usize, w: usize) ->
         if meets(first, second, map, i, at) {
             return true;
         }
-        at += 5;
+        at += 7;
         more -= 1;
     }
     false
@@ -43,9 +43,9 @@ fn has_candidate(first: &[u8], second: &[u8], map: &[u8], i: usize, w: usize) ->
 
 // The look-ahead: whether each of the `left` atoms of first from i on has a candidate.
 fn all_have(first: &[u8], second: &[u8], map: &[u8], i: usize, left: usize, w: usize) -> bool
-    requires { ⌜ (length (now map) ≡ 64)
+    requires { ⌜ (length (now map) ≡ 96)
         × AtomsIn stored (now first) i left
-        × (1 + w * 5 ≤ length (now second)) ⌝ }
+        × (1 + w * 7 ≤ length (now second)) ⌝ }
     ensures { λ r. ⌜ r
         ≡ all
         (hasCandidate (partOf (now (map .entry))) (atomsAt stored (now (second .entry)) 1 w))
@@ -57,7 +57,7 @@ fn all_have(first: &[u8], second: &[u8], map: &[u8], i: usize, left: usize, w: u
         if !has_candidate(first, second, map, at, w) {
             return false;
         }
-        at += 5;
+        at += 7;
         more -= 1;
     }
     true
@@ -65,11 +65,11 @@ fn all_have(first: &[u8], second: &[u8], map: &[u8], i: usize, left: usize, w: u
 
 // Whether t is one of the places of the atom of first at i.
 fn stands_at(first: &[u8], i: usize, t: u8) -> bool
-    requires { ⌜ (i + 5 ≤ length (now first)) × (t < 64) ⌝ }
-    ensures { λ r. ⌜ r ≡ any (eqTerm (termOf t)) (argsAt (now (first .entry)) (i + 1) 4) ⌝ }
+    requires { ⌜ (i + 7 ≤ length (now first)) × (t < 96) ⌝ }
+    ensures { λ r. ⌜ r ≡ any (eqTerm (termOf t)) (argsAt (now (first .entry)) (i + 1) 6) ⌝ }
 {
     let mut j = 0;
-    while j < 4 {
+    while j < 6 {
         let u = first[i + 1 + j];
         if u == t {
             return true;
@@ -84,7 +84,7 @@ fn stands_at(first: &[u8], i: usize, t: u8) -> bool
 
 // Whether t stands in one of the `left` atoms of first from i on.
 fn stands_in(first: &[u8], i: usize, left: usize, t: u8) -> bool
-    requires { ⌜ (i + left * 5 ≤ length (now first)) × (t < 64) ⌝ }
+    requires { ⌜ (i + left * 7 ≤ length (now first)) × (t < 96) ⌝ }
     ensures { λ r. ⌜ r ≡ any (eqTerm (termOf t)) (terms (atomsAt stored (now (first .entry)) i left)) ⌝ }
 {
     let mut at = i;
@@ -93,7 +93,7 @@ fn stands_in(first: &[u8], i: usize, left: usize, t: u8) -> bool
         if stands_at(first, at, t) {
             return true;
         }
-        at += 5;
+        at += 7;
         more -= 1;
     }
     false
@@ -101,12 +101,12 @@ fn stands_in(first: &[u8], i: usize, left: usize, t: u8) -> bool
 
 // Whether the place u of an atom is a variable that goes nowhere yet and stands in the `left` atoms of first from i on.
 fn place_leads(first: &[u8], map: &[u8], i: usize, left: usize, u: u8) -> bool
-    requires { ⌜ (length (now map) ≡ 64) × (i + left * 5 ≤ length (now first)) × (64 ≤ u → 128 ≤ u) ⌝ }
+    requires { ⌜ (length (now map) ≡ 96) × (i + left * 7 ≤ length (now first)) × (96 ≤ u → 128 ≤ u) ⌝ }
     ensures { λ r. ⌜ r
         ≡ (newTo (partOf (now (map .entry))) (termOf u)
         && any (eqTerm (termOf u)) (terms (atomsAt stored (now (first .entry)) i left))) ⌝ }
 {
-    if 64 <= u {
+    if 96 <= u {
         return false;
     }
     if map[u as usize] != 255 {
@@ -117,20 +117,20 @@ fn place_leads(first: &[u8], map: &[u8], i: usize, left: usize, u: u8) -> bool
 
 // Whether the atom of first at i brings the `left` atoms after it a variable that goes nowhere yet.
 fn leads_on(first: &[u8], map: &[u8], i: usize, left: usize) -> bool
-    requires { ⌜ (length (now map) ≡ 64) × AtomsIn stored (now first) i (left + 1) ⌝ }
+    requires { ⌜ (length (now map) ≡ 96) × AtomsIn stored (now first) i (left + 1) ⌝ }
     ensures { λ r. ⌜ r
         ≡ leadsOn
         (partOf (now (map .entry)))
         (atomAt stored (now (first .entry)) i)
-        (atomsAt stored (now (first .entry)) (i + 5) left) ⌝ }
+        (atomsAt stored (now (first .entry)) (i + 7) left) ⌝ }
 {
     let mut j = 0;
-    while j < 4 {
+    while j < 6 {
         let u = first[i + 1 + j];
         if u == 255 {
             return false;
         }
-        if place_leads(first, map, i + 5, left, u) {
+        if place_leads(first, map, i + 7, left, u) {
             return true;
         }
         j += 1;
@@ -149,14 +149,14 @@ const MET: u8 = 2;
 // Whether no other candidate has to be tried: the atom of first at i met this one, those after it could not be placed, and
 // it brings them nothing new, so that they cannot be placed wherever it goes.
 fn gives_up(first: &[u8], map: &[u8], i: usize, left: usize, tried: u8) -> bool
-    requires { ⌜ (length (now map) ≡ 64) × AtomsIn stored (now first) i (left + 1) ⌝ }
+    requires { ⌜ (length (now map) ≡ 96) × AtomsIn stored (now first) i (left + 1) ⌝ }
     ensures { λ r. ⌜ r
         ≡ (eqb tried 2
         && not
         (leadsOn
         (partOf (now (map .entry)))
         (atomAt stored (now (first .entry)) i)
-        (atomsAt stored (now (first .entry)) (i + 5) left))) ⌝ }
+        (atomsAt stored (now (first .entry)) (i + 7) left))) ⌝ }
 {
     if tried != MET {
         return false;
@@ -175,9 +175,9 @@ pub fn place_next(
     left: usize,
     w: usize,
 ) -> bool
-    requires { ⌜ (length (now map) ≡ 64)
+    requires { ⌜ (length (now map) ≡ 96)
         × AtomsIn stored (now first) i left
-        × (1 + w * 5 ≤ length (now second)) ⌝ }
+        × (1 + w * 7 ≤ length (now second)) ⌝ }
     ensures { λ r. ⌜ Searched
         (findMap
         (atomsAt stored (now (first .entry)) i left)
@@ -203,7 +203,7 @@ pub fn place_next(
         if gives_up(first, map, i, left - 1, tried) {
             return false;
         }
-        k += 5;
+        k += 7;
         more -= 1;
     }
     false
@@ -220,14 +220,14 @@ fn try_candidate(
     k: usize,
     w: usize,
 ) -> u8
-    requires { ⌜ (length (now map) ≡ 64)
+    requires { ⌜ (length (now map) ≡ 96)
         × AtomsIn stored (now first) i (left + 1)
-        × (k + 5 ≤ length (now second))
-        × (1 + w * 5 ≤ length (now second)) ⌝ }
+        × (k + 7 ≤ length (now second))
+        × (1 + w * 7 ≤ length (now second)) ⌝ }
     ensures { λ r. ⌜ Searched
         (placedOn
         (atomAt stored (now (first .entry)) i)
-        (atomsAt stored (now (first .entry)) (i + 5) left)
+        (atomsAt stored (now (first .entry)) (i + 7) left)
         (atomsAt stored (now (second .entry)) 1 w)
         (partOf (now (map .entry)))
         (atomAt stored (now (second .entry)) k))
@@ -246,22 +246,26 @@ fn try_candidate(
         return APART;
     }
     let before = send(first, second, map, i + 1, k + 1);
-    if place_next(first, second, map, i + 5, left, w) {
+    if place_next(first, second, map, i + 7, left, w) {
         return PLACED;
     }
     take_back(first, map, i + 1, before);
     MET
 }
 
-// Whether the first record covers the second, where both are known to be sound and count all their atoms.
+// Whether the first record covers the second, where both are known to be sound and count all their atoms. Where a
+// relation of the first does not stand in the second it does not, and no map is tried.
 pub fn covers_sound(first: &[u8], second: &[u8]) -> bool
     requires { ⌜ SoundRecord stored (now first) × SoundRecord stored (now second) ⌝ }
     ensures { λ r. ⌜ r
         ≡ covers (questionOf stored (now (first .entry))) (questionOf stored (now (second .entry))) ⌝ }
 {
+    if !records::are_among(first, records::relations(second)) {
+        return false;
+    }
     let n = first[0] as usize;
     let w = second[0] as usize;
-    let mut map = [255u8; 64];
+    let mut map = [255u8; 96];
     place_next(first, second, &mut map, 1, n, w)
 }
 
@@ -270,7 +274,7 @@ pub fn covers_sound(first: &[u8], second: &[u8]) -> bool
 pub fn covers_on(first: &[u8], second: &[u8], map: &mut [u8], k: usize) -> bool
     requires { ⌜ SoundRecord stored (now first)
         × SoundRecord stored (now second)
-        × (length (now map) ≡ 64)
+        × (length (now map) ≡ 96)
         × (k < getD (now second) 0 0)
         × (1 ≤ getD (now first) 0 0) ⌝ }
     ensures { λ r. ⌜ Searched
@@ -278,12 +282,12 @@ pub fn covers_on(first: &[u8], second: &[u8], map: &mut [u8], k: usize) -> bool
         (questionOf stored (now (first .entry)))
         (questionOf stored (now (second .entry)))
         (partOf (now (map .entry)))
-        (atomAt stored (now (second .entry)) (1 + k * 5)))
+        (atomAt stored (now (second .entry)) (1 + k * 7)))
         (now (map .entry))
         (now (map .exit))
         r ⌝ }
 {
     let n = first[0] as usize;
     let w = second[0] as usize;
-    try_candidate(first, second, map, 1, n - 1, 1 + k * 5, w) == PLACED
+    try_candidate(first, second, map, 1, n - 1, 1 + k * 7, w) == PLACED
 }

@@ -8,34 +8,34 @@ use Prim.Native.Nat.{ℕ}
 use native.Mathlib.Omega.{arith}
 use lib.ListN.{replicate}
 use Rattle.covering.specs.Asking.{Asking}
-use Rattle.covering.specs.Record.{Layout, askingOf, isRecord, recordOf}
+use Rattle.covering.specs.Record.{desk, askingOf, isDeskRecord, deskRecord}
 use Rattle.covering.specs.Desk.{coversAnswer, coversAsking, the-first, the-second, neither, which, coversNumber}
-use Rattle.covering.specs.Desk.{Chosen, chosenNumber, keptAnswer, coveringMap, coversMap, keptMap}
+use Rattle.covering.specs.Desk.{Chosen, chosenNumber, keptAnswer, coveringMap, coversMap, keptMap, mapSize}
 use Rattle.covering.specs.FirstMap.{mapOr}
 use Rattle.covering.proofs.Tests.{either}
 
-module _ (L : Layout) (B : List ℕ) where
-  pub record-of : isRecord L B ≡ true → recordOf L B ≡ some (askingOf L B)
-  unfolding recordOf
+module _ (w : ℕ) (B : List ℕ) where
+  pub record-of : isDeskRecord w B ≡ true → deskRecord w B ≡ some (askingOf (desk w) B)
+  unfolding deskRecord
   record-of e = rw e
 
-  pub no-record : isRecord L B ≡ false → recordOf L B ≡ none
-  unfolding recordOf
+  pub no-record : isDeskRecord w B ≡ false → deskRecord w B ≡ none
+  unfolding deskRecord
   no-record e = rw e
 
-module _ (L : Layout) (A B : List ℕ) where
-  pub answer-2 : isRecord L A ≡ false → coversAnswer L A B ≡ 2
+module _ (w : ℕ) (A B : List ℕ) where
+  pub answer-2 : isDeskRecord w A ≡ false → coversAnswer w A B ≡ 2
   unfolding coversAnswer
-  answer-2 e = rw (no-record L A e)
+  answer-2 e = rw (no-record w A e)
 
-  pub answer-3 : isRecord L A ≡ true → isRecord L B ≡ false → coversAnswer L A B ≡ 3
+  pub answer-3 : isDeskRecord w A ≡ true → isDeskRecord w B ≡ false → coversAnswer w A B ≡ 3
   unfolding coversAnswer
-  answer-3 e f = rw (record-of L A e, no-record L B f)
+  answer-3 e f = rw (record-of w A e, no-record w B f)
 
-  pub answer-covers : isRecord L A ≡ true → isRecord L B ≡ true
-      → coversAnswer L A B ≡ cond (coversAsking (askingOf L A) (askingOf L B)) 1 0
+  pub answer-covers : isDeskRecord w A ≡ true → isDeskRecord w B ≡ true
+      → coversAnswer w A B ≡ cond (coversAsking (askingOf (desk w) A) (askingOf (desk w) B)) 1 0
   unfolding coversAnswer
-  answer-covers e f = rw (record-of L A e, record-of L B f)
+  answer-covers e f = rw (record-of w A e, record-of w B f)
 
 -- which to keep, from the two answers
 first-kept : (x y : Option Asking) → coversNumber x y ≡ 1 → which x y ≡ the-first
@@ -70,74 +70,74 @@ none-kept (some A) (some B) n m = go (either (coversAsking A B)) (either (covers
     go (inr f) (inl u) = absurd (m (rw u))
     go (inr f) (inr u) = rw (f, u)
 
-module _ (L : Layout) (A B : List ℕ) where
-  pub keeps-first : coversAnswer L A B ≡ 1 → which (recordOf L A) (recordOf L B) ≡ the-first
+module _ (w : ℕ) (A B : List ℕ) where
+  pub keeps-first : coversAnswer w A B ≡ 1 → which (deskRecord w A) (deskRecord w B) ≡ the-first
   unfolding coversAnswer
-  keeps-first e = first-kept (recordOf L A) (recordOf L B) e
+  keeps-first e = first-kept (deskRecord w A) (deskRecord w B) e
 
-  pub keeps-second : (coversAnswer L A B ≡ 1 → ⊥) → coversAnswer L B A ≡ 1
-      → which (recordOf L A) (recordOf L B) ≡ the-second
+  pub keeps-second : (coversAnswer w A B ≡ 1 → ⊥) → coversAnswer w B A ≡ 1
+      → which (deskRecord w A) (deskRecord w B) ≡ the-second
   unfolding coversAnswer
-  keeps-second n e = second-kept (recordOf L A) (recordOf L B) n e
+  keeps-second n e = second-kept (deskRecord w A) (deskRecord w B) n e
 
-  pub keeps-neither : (coversAnswer L A B ≡ 1 → ⊥) → (coversAnswer L B A ≡ 1 → ⊥)
-      → which (recordOf L A) (recordOf L B) ≡ neither
+  pub keeps-neither : (coversAnswer w A B ≡ 1 → ⊥) → (coversAnswer w B A ≡ 1 → ⊥)
+      → which (deskRecord w A) (deskRecord w B) ≡ neither
   unfolding coversAnswer
-  keeps-neither n m = none-kept (recordOf L A) (recordOf L B) n m
+  keeps-neither n m = none-kept (deskRecord w A) (deskRecord w B) n m
 
-module _ (L : Layout) (A B : List ℕ) where
-  pub map-2 : isRecord L A ≡ false → coversMap L A B ≡ replicate (L .variables) 255
+module _ (w : ℕ) (A B : List ℕ) where
+  pub map-2 : isDeskRecord w A ≡ false → coversMap w A B ≡ replicate mapSize 255
   unfolding coversMap
-  map-2 e = rw (no-record L A e)
+  map-2 e = rw (no-record w A e)
 
-  pub map-3 : isRecord L A ≡ true → isRecord L B ≡ false → coversMap L A B ≡ replicate (L .variables) 255
+  pub map-3 : isDeskRecord w A ≡ true → isDeskRecord w B ≡ false → coversMap w A B ≡ replicate mapSize 255
   unfolding coversMap
-  map-3 e f = rw (record-of L A e, no-record L B f)
+  map-3 e f = rw (record-of w A e, no-record w B f)
 
-  pub map-covers : isRecord L A ≡ true → isRecord L B ≡ true
-      → coversMap L A B ≡ mapOr (L .variables) (coveringMap (askingOf L A) (askingOf L B))
+  pub map-covers : isDeskRecord w A ≡ true → isDeskRecord w B ≡ true
+      → coversMap w A B ≡ mapOr mapSize (coveringMap (askingOf (desk w) A) (askingOf (desk w) B))
   unfolding coversMap
-  map-covers e f = rw (record-of L A e, record-of L B f)
+  map-covers e f = rw (record-of w A e, record-of w B f)
 
   -- the map of the one that is kept
-  pub map-first : which (recordOf L A) (recordOf L B) ≡ the-first → keptMap L A B ≡ coversMap L A B
+  pub map-first : which (deskRecord w A) (deskRecord w B) ≡ the-first → keptMap w A B ≡ coversMap w A B
   unfolding keptMap coversMap
   map-first e = rw e
 
-  pub map-second : which (recordOf L A) (recordOf L B) ≡ the-second → keptMap L A B ≡ coversMap L B A
+  pub map-second : which (deskRecord w A) (deskRecord w B) ≡ the-second → keptMap w A B ≡ coversMap w B A
   unfolding keptMap coversMap
   map-second e = rw e
 
-  pub map-neither : which (recordOf L A) (recordOf L B) ≡ neither → keptMap L A B ≡ replicate (L .variables) 255
+  pub map-neither : which (deskRecord w A) (deskRecord w B) ≡ neither → keptMap w A B ≡ replicate mapSize 255
   unfolding keptMap
   map-neither e = rw e
 
 -- the number says which
-chosen-1 : (w : Chosen) → chosenNumber w ≡ 1 → w ≡ the-first
+chosen-1 : (c : Chosen) → chosenNumber c ≡ 1 → c ≡ the-first
 chosen-1 the-first e = refl
 chosen-1 the-second e = absurd (omega arith)
 chosen-1 neither e = absurd (omega arith)
 
-chosen-2 : (w : Chosen) → chosenNumber w ≡ 2 → w ≡ the-second
+chosen-2 : (c : Chosen) → chosenNumber c ≡ 2 → c ≡ the-second
 chosen-2 the-first e = absurd (omega arith)
 chosen-2 the-second e = refl
 chosen-2 neither e = absurd (omega arith)
 
-chosen-0 : (w : Chosen) → (chosenNumber w ≡ 1 → ⊥) → (chosenNumber w ≡ 2 → ⊥) → w ≡ neither
+chosen-0 : (c : Chosen) → (chosenNumber c ≡ 1 → ⊥) → (chosenNumber c ≡ 2 → ⊥) → c ≡ neither
 chosen-0 the-first n m = absurd (n refl)
 chosen-0 the-second n m = absurd (m refl)
 chosen-0 neither n m = refl
 
-module _ (L : Layout) (A B : List ℕ) where
-  pub kept-first : keptAnswer L A B ≡ 1 → which (recordOf L A) (recordOf L B) ≡ the-first
+module _ (w : ℕ) (A B : List ℕ) where
+  pub kept-first : keptAnswer w A B ≡ 1 → which (deskRecord w A) (deskRecord w B) ≡ the-first
   unfolding keptAnswer
   kept-first e = chosen-1 _ e
 
-  pub kept-second : keptAnswer L A B ≡ 2 → which (recordOf L A) (recordOf L B) ≡ the-second
+  pub kept-second : keptAnswer w A B ≡ 2 → which (deskRecord w A) (deskRecord w B) ≡ the-second
   unfolding keptAnswer
   kept-second e = chosen-2 _ e
 
-  pub kept-neither : (keptAnswer L A B ≡ 1 → ⊥) → (keptAnswer L A B ≡ 2 → ⊥)
-      → which (recordOf L A) (recordOf L B) ≡ neither
+  pub kept-neither : (keptAnswer w A B ≡ 1 → ⊥) → (keptAnswer w A B ≡ 2 → ⊥)
+      → which (deskRecord w A) (deskRecord w B) ≡ neither
   unfolding keptAnswer
   kept-neither n m = chosen-0 _ n m

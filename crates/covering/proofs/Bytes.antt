@@ -10,7 +10,8 @@ use lib.Dec.{T, eqb, ltb, leb, ltb→lt, leb→le, eqb→eq}
 use lib.ListN.{length, getD, List·getD-eq-default}
 use Rattle.covering.specs.Term.{var, con, eqTerm}
 use Rattle.covering.specs.Record.{Layout, size, termOf, argsAt, isTerm, unused, usedFirst, isAtom, areAtoms}
-use Rattle.covering.specs.Record.{arePlaces, isRelation, hasAnswer, answers, isRecord, width}
+use Rattle.covering.specs.Record.{arePlaces, areAnswerPlaces, isRelation, hasAnswer, answers, isRecord, width}
+use Rattle.covering.specs.Record.{desk, isWidth, isDeskRecord, oldPlaces, newPlaces}
 use Rattle.covering.proofs.Tests.{either, fst-of, snd-of, or-cases, true→T}
 use Rattle.covering.specs.Asking.{answerRelation}
 
@@ -200,7 +201,7 @@ module _ (L : Layout) (B : List ℕ) where
 
     pub record-fits : length B ≡ width L (answers B + getD B 0 0)
         → isRecord L B
-        ≡ (cond (hasAnswer B) (arePlaces L B 2) true && areAtoms L B (1 + answers B * size L) (getD B 0 0))
+        ≡ (cond (hasAnswer B) (areAnswerPlaces L B 2) true && areAtoms L B (1 + answers B * size L) (getD B 0 0))
     unfolding isRecord
     record-fits e =
         rw (
@@ -212,6 +213,48 @@ module _ (L : Layout) (B : List ℕ) where
   record-empty e =
       let none = List·getD-eq-default B 0 {n = 0} (omega arith) in
       record-misfit (omega (arith, none)) (λ f. omega (arith, f, e))
+
+-- the width: four places or six
+pub width-cases : (w : ℕ) → T (isWidth w) → (w ≡ oldPlaces) ⊎ (w ≡ newPlaces)
+width-cases w t = go (or-cases (eqb w oldPlaces) (eqb w newPlaces) t)
+  where
+    go : T (eqb w oldPlaces) ⊎ T (eqb w newPlaces) → (w ≡ oldPlaces) ⊎ (w ≡ newPlaces)
+    go (inl h) = inl (eqb→eq w oldPlaces h)
+    go (inr h) = inr (eqb→eq w newPlaces h)
+
+pub width-least : (w : ℕ) → T (isWidth w) → oldPlaces ≤ w
+width-least w t = go (width-cases w t)
+  where
+    go : (w ≡ oldPlaces) ⊎ (w ≡ newPlaces) → oldPlaces ≤ w
+    go (inl e) = omega arith
+    go (inr e) = omega arith
+
+pub width-most : (w : ℕ) → T (isWidth w) → w ≤ newPlaces
+width-most w t = go (width-cases w t)
+  where
+    go : (w ≡ oldPlaces) ⊎ (w ≡ newPlaces) → w ≤ newPlaces
+    go (inl e) = omega arith
+    go (inr e) = omega arith
+
+-- the desk's test
+module _ (w : ℕ) (B : List ℕ) where
+  pub desk-not-width : isWidth w ≡ false → isDeskRecord w B ≡ false
+  unfolding isDeskRecord
+  desk-not-width e = rw e
+
+  pub desk-is : isWidth w ≡ true → isDeskRecord w B ≡ isRecord (desk w) B
+  unfolding isDeskRecord
+  desk-is e = rw e
+
+  pub desk-passed : T (isDeskRecord w B) → T (isWidth w) × T (isRecord (desk w) B)
+  unfolding isDeskRecord
+  desk-passed t = (fst-of (isWidth w) _ t, snd-of (isWidth w) _ t)
+
+-- the test of an answer record's places: as an atom's, and after the fourth none
+module _ (L : Layout) (B : List ℕ) (i : ℕ) where
+  pub answer-places-are : T (areAnswerPlaces L B i) → T (arePlaces L B i)
+  unfolding areAnswerPlaces
+  answer-places-are t = fst-of (arePlaces L B i) _ t
 
 -- how many answer records there are
 module _ (B : List ℕ) where
@@ -248,7 +291,7 @@ module _ (B : List ℕ) where
 pub record Passed (L : Layout) (B : List ℕ) : Type 0 where
   pub most : getD B 0 0 ≤ L .atoms
   pub exact : length B ≡ width L (answers B + getD B 0 0)
-  pub places : T (cond (hasAnswer B) (arePlaces L B 2) true)
+  pub places : T (cond (hasAnswer B) (areAnswerPlaces L B 2) true)
   pub atoms : T (areAtoms L B (1 + answers B * size L) (getD B 0 0))
 
 pub record-passed : (L : Layout) (B : List ℕ) → T (isRecord L B) → Passed L B
@@ -256,7 +299,7 @@ unfolding isRecord
 record-passed L B t =
     let n = getD B 0 0 in
     let w = width L (answers B + n) in
-    let first = cond (hasAnswer B) (arePlaces L B 2) true in
+    let first = cond (hasAnswer B) (areAnswerPlaces L B 2) true in
     let rest = snd-of (leb n (L .atoms)) _ t in
     record {
       most = leb→le n (L .atoms) (fst-of (leb n (L .atoms)) _ t);

@@ -11,8 +11,8 @@ use Rattle.covering.specs.Asking.{Asking}
 use Rattle.covering.specs.Covers.{Sends, Covers, Equivalent, CoversAsking}
 use Rattle.covering.specs.Search.{findMap, firstMap, covers}
 use Rattle.covering.specs.Form.{dedup}
-use Rattle.covering.specs.Record.{desk, stored, isTerm, unused, usedFirst, arePlaces, isRelation, isAtom, areAtoms}
-use Rattle.covering.specs.Record.{hasAnswer, isRecord, atomBytes, recordBytes, askingBytes}
+use Rattle.covering.specs.Record.{desk, isTerm, unused, usedFirst, arePlaces, isRelation, isAtom, areAtoms}
+use Rattle.covering.specs.Record.{hasAnswer, areAnswerPlaces, isRecord, atomBytes, recordBytes, askingBytes}
 
 -- p of these terms
 abbrev p : List Term → Question
@@ -55,14 +55,14 @@ asked t = record { answer = t ∷ []; atoms = p (t ∷ []) }
 
 -- equal atoms are one; the count byte is the number of atoms, and the answer record stands before them, uncounted
 pub records-hold : (dedup (general ++ general) ≡ general)
-    × (recordBytes stored general ≡ 1 ∷ 0 ∷ 0 ∷ 255 ∷ 255 ∷ 255 ∷ [])
-    × (askingBytes stored (asked (con 0)) ≡ 1 ∷ 255 ∷ 128 ∷ 255 ∷ 255 ∷ 255 ∷ 0 ∷ 128 ∷ 255 ∷ 255 ∷ 255 ∷ [])
+    × (recordBytes (desk 4) general ≡ 1 ∷ 0 ∷ 0 ∷ 255 ∷ 255 ∷ 255 ∷ [])
+    × (askingBytes (desk 4) (asked (con 0)) ≡ 1 ∷ 255 ∷ 128 ∷ 255 ∷ 255 ∷ 255 ∷ 0 ∷ 128 ∷ 255 ∷ 255 ∷ 255 ∷ [])
 unfolding atomBytes recordBytes askingBytes
 records-hold = (refl, refl, refl)
 
 -- a used place after a 255
-pub gap-refused : isRecord desk (1 ∷ 0 ∷ 0 ∷ 255 ∷ 0 ∷ 255 ∷ []) ≡ false
-unfolding isTerm unused usedFirst arePlaces isRelation isAtom areAtoms hasAnswer isRecord
+pub gap-refused : isRecord (desk 4) (1 ∷ 0 ∷ 0 ∷ 255 ∷ 0 ∷ 255 ∷ []) ≡ false
+unfolding isTerm unused usedFirst arePlaces isRelation isAtom areAtoms hasAnswer areAnswerPlaces isRecord
 gap-refused = refl
 
 -- every variable goes to c0

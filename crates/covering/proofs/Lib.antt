@@ -12,6 +12,7 @@ pub mod First
 pub mod FirstMap
 pub mod OneFirst
 pub mod Local
+pub mod Relations
 -- the form of a question
 pub mod Form
 pub mod Sifted
@@ -20,6 +21,7 @@ pub mod FormSizes
 -- a record's bytes: place by place, atom by atom, copied, as long as they are, there and back
 pub mod Bytes
 pub mod Places
+pub mod EachAtom
 pub mod Copied
 pub mod Lengths
 pub mod RoundTrip
@@ -39,6 +41,8 @@ pub mod AnsweredCovers
 pub mod Answers
 pub mod Limits
 pub mod Examples
--- records and atoms in a buffer
+-- records and atoms in a buffer, bytes put there, atoms with another number of places
 pub mod Padded
 pub mod Within
+pub mod Putting
+pub mod Widths

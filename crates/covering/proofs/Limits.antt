@@ -7,8 +7,9 @@ use Prim.Native.Nat.{ℕ}
 use lib.ListN.{replicate}
 use Rattle.covering.specs.Lists.{gather, numbers}
 use Rattle.covering.specs.Search.{findMap, firstMap, covers}
-use Rattle.covering.specs.Record.{desk, termOf, argsAt, atomAt, atomsAt, isTerm, unused, usedFirst, arePlaces}
-use Rattle.covering.specs.Record.{isRelation, isAtom, areAtoms, hasAnswer, askingOf, isRecord, recordOf}
+use Rattle.covering.specs.Record.{termOf, argsAt, atomAt, atomsAt, isTerm, unused, usedFirst, arePlaces}
+use Rattle.covering.specs.Record.{isRelation, isAtom, areAtoms, hasAnswer, askingOf, isRecord, areAnswerPlaces, isDeskRecord}
+use Rattle.covering.specs.Record.{deskRecord}
 use Rattle.covering.specs.Desk.{coversAnswer, coversMap, the-first, the-second, neither, which, keptMap}
 use Rattle.covering.specs.FirstMap.{mapBytes}
 
@@ -27,13 +28,27 @@ one relation term = 1 ∷ atom relation term
 abbrev many : ℕ → ℕ → List ℕ
 many count n = count ∷ gather (λ (k : ℕ). atom 0 0) (numbers 0 n)
 
-pub limits-hold : (isRecord desk (one 63 63) ≡ true) × (isRecord desk (one 64 63) ≡ false)
-    × (isRecord desk (one 0 64) ≡ false) × (isRecord desk (one 0 127) ≡ false)
-    × (isRecord desk (one 0 128) ≡ true) × (isRecord desk (one 0 254) ≡ true) × (isRecord desk (one 0 255) ≡ false)
-    × (isRecord desk (0 ∷ []) ≡ true) × (isRecord desk [] ≡ false) × (isRecord desk (many 11 11) ≡ true) × (isRecord desk (many 12 12) ≡ false)
-    × (isRecord desk (many 1 2) ≡ false) × (isRecord desk (many 2 1) ≡ false)
-unfolding isTerm unused usedFirst arePlaces isRelation isAtom areAtoms hasAnswer isRecord
+pub limits-hold : (isDeskRecord 4 (one 63 63) ≡ true) × (isDeskRecord 4 (one 64 63) ≡ false)
+    × (isDeskRecord 4 (one 0 64) ≡ false) × (isDeskRecord 4 (one 0 127) ≡ false)
+    × (isDeskRecord 4 (one 0 128) ≡ true) × (isDeskRecord 4 (one 0 254) ≡ true) × (isDeskRecord 4 (one 0 255) ≡ false)
+    × (isDeskRecord 4 (0 ∷ []) ≡ true) × (isDeskRecord 4 [] ≡ false) × (isDeskRecord 4 (many 11 11) ≡ true) × (isDeskRecord 4 (many 12 12) ≡ false)
+    × (isDeskRecord 4 (many 1 2) ≡ false) × (isDeskRecord 4 (many 2 1) ≡ false)
+unfolding isTerm unused usedFirst arePlaces isRelation isAtom areAtoms hasAnswer areAnswerPlaces isRecord isDeskRecord
 limits-hold = (refl, refl, refl, refl, refl, refl, refl, refl, refl, refl, refl, refl, refl)
+
+-- records of six places (02, i): a relation's six places; variables 0 to 65; an answer of four places and of five;
+-- records of four places are none there, and of another width every record is malformed
+abbrev six : ℕ → ℕ → ℕ → List ℕ
+six relation t u = relation ∷ t ∷ 1 ∷ 2 ∷ 3 ∷ u ∷ 255 ∷ []
+
+pub widths-hold : (isDeskRecord 6 (1 ∷ 63 ∷ 0 ∷ 1 ∷ 2 ∷ 3 ∷ 4 ∷ 65 ∷ []) ≡ true)
+    × (isDeskRecord 6 (1 ∷ six 0 66 4) ≡ false) × (isDeskRecord 6 (1 ∷ (six 255 0 255 ++ six 0 0 4)) ≡ true)
+    × (isDeskRecord 6 (1 ∷ (six 255 0 4 ++ six 0 0 4)) ≡ false)
+    × (isDeskRecord 6 (one 0 0) ≡ false) × (isDeskRecord 4 (1 ∷ six 0 0 4) ≡ false)
+    × (isDeskRecord 5 (one 0 0) ≡ false) × (isDeskRecord 0 (0 ∷ []) ≡ false) × (isDeskRecord 6 (0 ∷ []) ≡ true)
+    × (isDeskRecord 5 (0 ∷ []) ≡ false)
+unfolding isTerm unused usedFirst arePlaces isRelation isAtom areAtoms hasAnswer areAnswerPlaces isRecord isDeskRecord
+widths-hold = (refl, refl, refl, refl, refl, refl, refl, refl, refl, refl)
 
 -- p(v0), a(v0) p(v0), a(c0) p(c0), a(v0,v0) p(v0)
 abbrev plain : List ℕ
@@ -49,35 +64,35 @@ abbrev twice : List ℕ
 twice = 1 ∷ (pair 255 0 0 ++ atom 0 0)
 
 -- the answer record is not counted, must be right, and is no atom; "if only one does, covering is no"
-pub answers-hold : (isRecord desk asked ≡ true) × (isRecord desk (2 ∷ (atom 255 0 ++ atom 0 0)) ≡ false)
-    × (isRecord desk (1 ∷ (atom 255 255 ++ atom 0 0)) ≡ false) × (isRecord desk (1 ∷ (atom 0 0 ++ atom 255 0)) ≡ false)
-    × (isRecord desk (1 ∷ atom 255 0) ≡ false)
-    × (coversAnswer desk plain (one 0 128) ≡ 1) × (coversAnswer desk (one 0 128) plain ≡ 0)
-    × (coversAnswer desk asked constant ≡ 1) × (coversAnswer desk constant asked ≡ 0)
-    × (coversAnswer desk plain constant ≡ 0) × (coversAnswer desk constant plain ≡ 0)
-    × (coversAnswer desk asked twice ≡ 0) × (coversAnswer desk twice asked ≡ 0)
-    × (coversAnswer desk (1 ∷ []) plain ≡ 2) × (coversAnswer desk plain (1 ∷ []) ≡ 3)
-    × (coversAnswer desk (1 ∷ []) (1 ∷ []) ≡ 2)
-    × (coversAnswer desk (0 ∷ []) plain ≡ 1) × (coversAnswer desk plain (0 ∷ []) ≡ 0)
-    × (coversAnswer desk (0 ∷ []) (0 ∷ []) ≡ 1) × (coversAnswer desk (0 ∷ []) asked ≡ 0)
-unfolding isTerm unused usedFirst arePlaces isRelation isAtom areAtoms hasAnswer isRecord recordOf askingOf termOf argsAt
+pub answers-hold : (isDeskRecord 4 asked ≡ true) × (isDeskRecord 4 (2 ∷ (atom 255 0 ++ atom 0 0)) ≡ false)
+    × (isDeskRecord 4 (1 ∷ (atom 255 255 ++ atom 0 0)) ≡ false) × (isDeskRecord 4 (1 ∷ (atom 0 0 ++ atom 255 0)) ≡ false)
+    × (isDeskRecord 4 (1 ∷ atom 255 0) ≡ false)
+    × (coversAnswer 4 plain (one 0 128) ≡ 1) × (coversAnswer 4 (one 0 128) plain ≡ 0)
+    × (coversAnswer 4 asked constant ≡ 1) × (coversAnswer 4 constant asked ≡ 0)
+    × (coversAnswer 4 plain constant ≡ 0) × (coversAnswer 4 constant plain ≡ 0)
+    × (coversAnswer 4 asked twice ≡ 0) × (coversAnswer 4 twice asked ≡ 0)
+    × (coversAnswer 4 (1 ∷ []) plain ≡ 2) × (coversAnswer 4 plain (1 ∷ []) ≡ 3)
+    × (coversAnswer 4 (1 ∷ []) (1 ∷ []) ≡ 2)
+    × (coversAnswer 4 (0 ∷ []) plain ≡ 1) × (coversAnswer 4 plain (0 ∷ []) ≡ 0)
+    × (coversAnswer 4 (0 ∷ []) (0 ∷ []) ≡ 1) × (coversAnswer 4 (0 ∷ []) asked ≡ 0)
+unfolding isTerm unused usedFirst arePlaces isRelation isAtom areAtoms hasAnswer areAnswerPlaces isRecord isDeskRecord deskRecord askingOf termOf argsAt
     atomAt atomsAt findMap firstMap covers coversAnswer
 answers-hold =
     (refl, refl, refl, refl, refl, refl, refl, refl, refl, refl, refl, refl, refl, refl, refl, refl, refl, refl, refl, refl)
 
 -- which of two is kept: the covering one, the first of two equivalent ones, or neither
-pub keeping-holds : (which (recordOf desk plain) (recordOf desk (one 0 128)) ≡ the-first)
-    × (which (recordOf desk (one 0 128)) (recordOf desk plain) ≡ the-second)
-    × (which (recordOf desk plain) (recordOf desk (one 0 1)) ≡ the-first)
-    × (which (recordOf desk plain) (recordOf desk asked) ≡ neither)
-unfolding isTerm unused usedFirst arePlaces isRelation isAtom areAtoms hasAnswer isRecord recordOf askingOf termOf argsAt
+pub keeping-holds : (which (deskRecord 4 plain) (deskRecord 4 (one 0 128)) ≡ the-first)
+    × (which (deskRecord 4 (one 0 128)) (deskRecord 4 plain) ≡ the-second)
+    × (which (deskRecord 4 plain) (deskRecord 4 (one 0 1)) ≡ the-first)
+    × (which (deskRecord 4 plain) (deskRecord 4 asked) ≡ neither)
+unfolding isTerm unused usedFirst arePlaces isRelation isAtom areAtoms hasAnswer areAnswerPlaces isRecord isDeskRecord deskRecord askingOf termOf argsAt
     atomAt atomsAt findMap firstMap covers
 keeping-holds = (refl, refl, refl, refl)
 
--- the map's bytes: c0 for v0 and 255 for the other 63; all 255 where the answer is not yes; of the one that is kept
-pub maps-told : (coversMap desk plain (one 0 128) ≡ 128 ∷ replicate 63 255) × (coversMap desk (one 0 128) plain ≡ replicate 64 255)
-    × (coversMap desk [] plain ≡ replicate 64 255)
-    × (keptMap desk (one 0 128) plain ≡ 128 ∷ replicate 63 255) × (keptMap desk plain asked ≡ replicate 64 255)
-unfolding isTerm unused usedFirst arePlaces isRelation isAtom areAtoms hasAnswer isRecord recordOf askingOf termOf argsAt
+-- the map's bytes: c0 for v0 and 255 for the other 65; all 255 where the answer is not yes; of the one that is kept
+pub maps-told : (coversMap 4 plain (one 0 128) ≡ 128 ∷ replicate 65 255) × (coversMap 4 (one 0 128) plain ≡ replicate 66 255)
+    × (coversMap 4 [] plain ≡ replicate 66 255)
+    × (keptMap 4 (one 0 128) plain ≡ 128 ∷ replicate 65 255) × (keptMap 4 plain asked ≡ replicate 66 255)
+unfolding isTerm unused usedFirst arePlaces isRelation isAtom areAtoms hasAnswer areAnswerPlaces isRecord isDeskRecord deskRecord askingOf termOf argsAt
     atomAt atomsAt findMap firstMap covers coversMap keptMap mapBytes
 maps-told = (refl, refl, refl, refl, refl)

@@ -16,7 +16,7 @@ use Rattle.covering.specs.Lists.{_∈_, gather}
 use Rattle.covering.specs.Term.{Term, var, con, Atom, Question}
 use Rattle.covering.specs.Record.{Layout, desk, size, termOf, argsAt, atomAt, atomsAt, isTerm}
 use Rattle.covering.specs.Record.{unused, usedFirst, isAtom, areAtoms, byteOf, placesBytes}
-use Rattle.covering.specs.Record.{atomBytes, TermFits, AtomFits, stored}
+use Rattle.covering.specs.Record.{atomBytes, TermFits, AtomFits, holding, stored, deskVariables, oldPlaces, newPlaces}
 use Rattle.covering.specs.Record.{arePlaces, isRelation}
 use Rattle.covering.proofs.Tests.{either, both, fst-of, snd-of, or-left, or-right, true→T, T→true}
 use Rattle.covering.proofs.Terms.{atom-path}
@@ -27,13 +27,23 @@ pub record TellsApart (L : Layout) : Type 0 where
   pub variables : L .variables ≤ 128
   pub constants : L .constants ≤ 127
 
-pub desk-apart : TellsApart desk
-desk-apart = record { variables = omega arith; constants = omega arith }
+pub desk-variables : (w : ℕ) → deskVariables w ≤ 66
+desk-variables w = go (eqb w oldPlaces)
+  where
+    go : (b : Bool) → cond b 64 66 ≤ 66
+    go true = omega arith
+    go false = omega arith
+
+pub desk-apart : (w : ℕ) → TellsApart (desk w)
+desk-apart w = record { variables = omega (arith, desk-variables w); constants = omega arith }
+
+pub holding-apart : (w : ℕ) → TellsApart (holding w)
+holding-apart w = record { variables = omega arith; constants = omega arith }
 
 pub stored-apart : TellsApart stored
-stored-apart = record { variables = omega arith; constants = omega arith }
+stored-apart = holding-apart newPlaces
 
-byte-back : (b : ℕ) → byteOf (termOf b) ≡ b
+pub byte-back : (b : ℕ) → byteOf (termOf b) ≡ b
 byte-back b = go (either (ltb b 128))
   where
     go : (ltb b 128 ≡ true) ⊎ (ltb b 128 ≡ false) → byteOf (termOf b) ≡ b
@@ -92,7 +102,7 @@ next-place i w = omega arith
 -- From a question to bytes and back.
 
 module _ (L : Layout) (ap-L : TellsApart L) (B : List ℕ) where
-  unused-read : (w i : ℕ) (R : List ℕ) → drop i B ≡ placesBytes w [] ++ R → T (unused B i w) × (drop (i + w) B ≡ R)
+  pub unused-read : (w i : ℕ) (R : List ℕ) → drop i B ≡ placesBytes w [] ++ R → T (unused B i w) × (drop (i + w) B ≡ R)
   unfolding unused
   unused-read zero i R e = (tt, rw add-zero e)
   unused-read (suc w) i R e =

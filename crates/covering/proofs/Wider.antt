@@ -1,4 +1,5 @@
--- What keeps to a layout keeps to a wider one with the same places, and means the same in both. Assumes nothing.
+-- What keeps to a layout keeps to a wider one with the same places, and means the same in both; what fits fits where an
+-- atom has more places. Assumes nothing.
 use mathlib.Core.Path.{_≡_, refl, _∙_, ap, ap₂, subst}
 use mathlib.Core.Bool.{Bool, true, false, cond, _&&_, _||_}
 use mathlib.Core.Logic.{_⊎_, inl, inr}
@@ -12,8 +13,9 @@ use Rattle.covering.specs.Term.{Term, var, con, Atom, Question}
 use Rattle.covering.specs.Asking.{answerRelation}
 use Rattle.covering.specs.Record.{Layout, size, atomAt, atomsAt, isTerm, unused, usedFirst, isAtom, areAtoms}
 use Rattle.covering.specs.Record.{placesBytes, atomBytes, recordBytes, TermFits, AtomFits, Fits, isRelation}
-use Rattle.covering.specs.Record.{arePlaces}
+use Rattle.covering.specs.Record.{arePlaces, holding}
 use Rattle.covering.proofs.Tests.{both, fst-of, snd-of, or-cases, or-left, or-right}
+use Rattle.covering.proofs.Bytes.{relation-like}
 use Rattle.covering.proofs.RoundTrip.{TellsApart}
 use Rattle.covering.proofs.Fitting.{term-is-used}
 
@@ -138,3 +140,20 @@ module _ (L M : Layout) (w : Wider L M) where
     atoms-wider (suc n) i t =
         both (isAtom M B i) _ (atom-wider i (fst-of (isAtom L B i) _ t))
         (subst (λ s. T (areAtoms M B (i + s) n)) same-size (atoms-wider n (i + size L) (snd-of (isAtom L B i) _ t)))
+
+-- what fits fits where an atom has more places
+term-alike : (w v : ℕ) (t : Term) → TermFits (holding w) t → TermFits (holding v) t
+term-alike w v (var n) h = h
+term-alike w v (con c) h = h
+
+pub more-places : {w v : ℕ} {a : Atom} → w ≤ v → AtomFits (holding w) a → AtomFits (holding v) a
+more-places {w} {v} {a} few f =
+    record {
+      relation = relation-like (holding w) (holding v) (a .rel) refl refl (f .relation);
+      some-place = f .some-place;
+      places = omega (arith, f .places);
+      terms = λ t m. term-alike w v t (f .terms t m);
+    }
+
+pub fits-places : {w v : ℕ} {A : Question} → w ≤ v → Fits (holding w) A → Fits (holding v) A
+fits-places few f = record { most = f .most; each = λ a m. more-places few (f .each a m) }

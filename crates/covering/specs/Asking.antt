@@ -20,6 +20,10 @@ pub record Asking : Type 0 where
 abbrev pub answerRelation : ℕ
 answerRelation = 255
 
+-- "a question may have one to four answer places", "still at most four" where atoms have six (02, i)
+abbrev pub answerMost : ℕ
+answerMost = 4
+
 abbrev pub answerAtom : List Term → Atom
 answerAtom ts = record { rel = answerRelation; args = ts }
 

@@ -1,4 +1,5 @@
--- The search desk's operations (01, "The search desk's covering").
+-- The search desk's operations (01, "The search desk's covering"), for records of either width (02, i): w is how many
+-- places an atom of them has.
 use mathlib.Core.Path.{_≡_}
 use mathlib.Core.Bool.{Bool, cond}
 use mathlib.Core.List.{List, []}
@@ -10,7 +11,7 @@ use denote.Ref.{RefT, now, ptr}
 use Rattle.covering.specs.Lists.{isSome}
 use Rattle.covering.specs.Asking.{Asking, joined}
 use Rattle.covering.specs.Search.{Part, firstMap}
-use Rattle.covering.specs.Record.{Layout, recordOf}
+use Rattle.covering.specs.Record.{deskRecord}
 use Rattle.covering.specs.FirstMap.{mapOr}
 
 -- "Covering is to give the map it found" (02, f): the first of all, or none. Conjunctions do not tell that "only one
@@ -29,17 +30,21 @@ coversNumber (some p) none = 3
 coversNumber (some p) (some q) = cond (coversAsking p q) 1 0
 
 -- "It takes two member records and answers if the first covers the second"
-unfoldable pub coversAnswer : Layout → List ℕ → List ℕ → ℕ
-coversAnswer L first second = coversNumber (recordOf L first) (recordOf L second)
+unfoldable pub coversAnswer : ℕ → List ℕ → List ℕ → ℕ
+coversAnswer w first second = coversNumber (deskRecord w first) (deskRecord w second)
 
 abbrev pub foundMap : Option Asking → Option Asking → Option Part
 foundMap none b = none
 foundMap (some p) none = none
 foundMap (some p) (some q) = coveringMap p q
 
+-- "Variables run .. in the desk's records 0 to 65" (02, i): the bytes of a map, whatever the width
+abbrev pub mapSize : ℕ
+mapSize = 66
+
 -- and the map, a byte for each variable of the first record; 255 for all where the answer is not yes
-unfoldable pub coversMap : Layout → List ℕ → List ℕ → List ℕ
-coversMap L first second = mapOr (L .variables) (foundMap (recordOf L first) (recordOf L second))
+unfoldable pub coversMap : ℕ → List ℕ → List ℕ → List ℕ
+coversMap w first second = mapOr mapSize (foundMap (deskRecord w first) (deskRecord w second))
 
 -- "The desk also asks which of two records to keep"
 pub data Chosen : Type 0 where
@@ -60,8 +65,8 @@ chosenNumber neither = 0
 chosenNumber the-first = 1
 chosenNumber the-second = 2
 
-unfoldable pub keptAnswer : Layout → List ℕ → List ℕ → ℕ
-keptAnswer L first second = chosenNumber (which (recordOf L first) (recordOf L second))
+unfoldable pub keptAnswer : ℕ → List ℕ → List ℕ → ℕ
+keptAnswer w first second = chosenNumber (which (deskRecord w first) (deskRecord w second))
 
 -- the map by which the one that is kept covers the other
 abbrev pub chosenMap : Chosen → Option Asking → Option Asking → Option Part
@@ -69,11 +74,11 @@ chosenMap the-first a b = foundMap a b
 chosenMap the-second a b = foundMap b a
 chosenMap neither a b = none
 
-unfoldable pub keptMap : Layout → List ℕ → List ℕ → List ℕ
-keptMap L first second =
-    let a = recordOf L first in
-    let b = recordOf L second in
-    mapOr (L .variables) (chosenMap (which a b) a b)
+unfoldable pub keptMap : ℕ → List ℕ → List ℕ → List ℕ
+keptMap w first second =
+    let a = deskRecord w first in
+    let b = deskRecord w second in
+    mapOr mapSize (chosenMap (which a b) a b)
 
 abbrev pub keptBytes : Chosen → List ℕ → List ℕ → List ℕ
 keptBytes the-first a b = a
@@ -87,6 +92,6 @@ keptPlace the-first p q = p
 keptPlace the-second p q = q
 keptPlace neither p q = p
 
-pub record Keeps (L : Layout) (first second r : RefT (List ℕ)) : Type 0 where
-  pub bytes : now r ≡ keptBytes (which (recordOf L (now first)) (recordOf L (now second))) (now first) (now second)
-  pub place : ptr r ≡ keptPlace (which (recordOf L (now first)) (recordOf L (now second))) (ptr first) (ptr second)
+pub record Keeps (w : ℕ) (first second r : RefT (List ℕ)) : Type 0 where
+  pub bytes : now r ≡ keptBytes (which (deskRecord w (now first)) (deskRecord w (now second))) (now first) (now second)
+  pub place : ptr r ≡ keptPlace (which (deskRecord w (now first)) (deskRecord w (now second))) (ptr first) (ptr second)

@@ -12,3 +12,4 @@ pub mod FirstMap
 pub mod Desk
 -- What only contracts of the code above are said with; the definitions above do not need it.
 pub mod Buffer
+pub mod Put

@@ -1,7 +1,7 @@
 -- The member record: how a question stands in bytes (01, "Stored book", "Union as written", "The search desk's
 -- covering"). "one count byte and its atoms, five bytes each"; "An atom is five bytes: relation number .., then four
--- places." The five and the four are a layout's numbers here, so that another width is another layout. With answer
--- places (02, a) the answer record stands after the count byte, uncounted.
+-- places." The five and the four are a layout's numbers here: "atoms and answer records of seven bytes" (02, i) have six
+-- places. With answer places (02, a) the answer record stands after the count byte, uncounted.
 use mathlib.Core.Bool.{Bool, true, false, cond, _&&_, _||_}
 use mathlib.Core.List.{List, [], _∷_}
 use mathlib.Core.Option.{Option, none, some}
@@ -10,7 +10,7 @@ use lib.Dec.{T, eqb, ltb, leb}
 use lib.ListN.{length, getD}
 use Rattle.covering.specs.Lists.{_∈_, gather}
 use Rattle.covering.specs.Term.{Term, var, con, Atom, Question}
-use Rattle.covering.specs.Asking.{Asking, answerRelation, joined}
+use Rattle.covering.specs.Asking.{Asking, answerRelation, answerMost, joined}
 
 -- what a record keeps to; an atom of it may be an answer record, or may not
 pub record Layout : Type 0 where
@@ -21,13 +21,33 @@ pub record Layout : Type 0 where
   pub variables : ℕ
   pub constants : ℕ
 
--- "A record has 1 to 11 atoms .., relations 0 to 63, first one to four places used with 0 to 63 or 128 to 254"
-abbrev pub desk : Layout
-desk = record { atoms = 11; relations = 64; answers = false; places = 4; variables = 64; constants = 127 }
+-- "covering and evaluating are told the width" (02, i): how many places an atom has, four or six
+abbrev pub oldPlaces : ℕ
+oldPlaces = 4
 
--- what all our bytes keep to: the same with the answer record as an atom, the first of twelve
+abbrev pub newPlaces : ℕ
+newPlaces = 6
+
+abbrev pub isWidth : ℕ → Bool
+isWidth w = eqb w oldPlaces || eqb w newPlaces
+
+-- "used with 0 to 63 or 128 to 254"; "in the desk's records 0 to 65" (02, i)
+abbrev pub deskVariables : ℕ → ℕ
+deskVariables w = cond (eqb w oldPlaces) 64 66
+
+-- "A record has 1 to 11 atoms .., relations 0 to 63, first one to four places used with 0 to 63 or 128 to 254"
+abbrev pub desk : ℕ → Layout
+desk w =
+    record { atoms = 11; relations = 64; answers = false; places = w; variables = deskVariables w; constants = 127 }
+
+-- what bytes of atoms with w places keep to, the answer record an atom as the others, the first of twelve. A record that
+-- is not in its form yet has a question's variables, 48 of them, and a rule's.
+abbrev pub holding : ℕ → Layout
+holding w = record { atoms = 12; relations = 64; answers = true; places = w; variables = 96; constants = 127 }
+
+-- what all the bytes inside keep to: six places, whatever a book or a record has
 abbrev pub stored : Layout
-stored = record { atoms = 12; relations = 64; answers = true; places = 4; variables = 64; constants = 127 }
+stored = holding newPlaces
 
 -- an atom's bytes: its relation number and its places
 abbrev pub size : Layout → ℕ
@@ -91,6 +111,10 @@ usedFirst L B i (suc w) = cond (isTerm L (getD B i 0)) (usedFirst L B (i + 1) w)
 unfoldable pub arePlaces : Layout → List ℕ → ℕ → Bool
 arePlaces L B i = isTerm L (getD B i 0) && usedFirst L B i (L .places)
 
+-- "used places first and at least one used" of an answer record, "but still at most four answer places" (02, i)
+unfoldable pub areAnswerPlaces : Layout → List ℕ → ℕ → Bool
+areAnswerPlaces L B i = arePlaces L B i && unused B (i + answerMost) (L .places - answerMost)
+
 -- "relations 0 to 63", and 255 where the layout has answer records
 unfoldable pub isRelation : Layout → ℕ → Bool
 isRelation L b = ltb b (L .relations) || (L .answers && eqb b answerRelation)
@@ -107,13 +131,17 @@ areAtoms L B i (suc n) = isAtom L B i && areAtoms L B (i + size L) n
 unfoldable pub isRecord : Layout → List ℕ → Bool
 isRecord L B =
     let n = getD B 0 0 in
-    let places = cond (hasAnswer B) (arePlaces L B 2) true in
+    let places = cond (hasAnswer B) (areAnswerPlaces L B 2) true in
     leb n (L .atoms)
     && (eqb (length B) (width L (answers B + n)) && (places && areAtoms L B (1 + answers B * size L) n))
 
--- the question of a record, none if it is malformed
-unfoldable pub recordOf : Layout → List ℕ → Option Asking
-recordOf L B = cond (isRecord L B) (some (askingOf L B)) none
+-- "another width than 4 or 6 makes every record .. malformed" (02, i)
+unfoldable pub isDeskRecord : ℕ → List ℕ → Bool
+isDeskRecord w B = isWidth w && isRecord (desk w) B
+
+-- the question of a record whose atoms have w places, none if it is malformed
+unfoldable pub deskRecord : ℕ → List ℕ → Option Asking
+deskRecord w B = cond (isDeskRecord w B) (some (askingOf (desk w) B)) none
 
 -- what is known of a sound record that a buffer begins with: it may go on after the record
 pub record SoundRecord (L : Layout) (B : List ℕ) : Type 0 where
@@ -161,5 +189,5 @@ pub record Fits (L : Layout) (A : Question) : Type 0 where
 -- a question with or without answer places that a record can hold
 pub record AskingFits (L : Layout) (q : Asking) : Type 0 where
   pub atoms : Fits L (q .atoms)
-  pub places : length (q .answer) ≤ L .places
+  pub places : length (q .answer) ≤ answerMost
   pub terms : (t : Term) → t ∈ q .answer → TermFits L t

@@ -1,5 +1,5 @@
-// The search desk on a pair of records, or on many in one start: for each pair it reads two records, each a length of four
-// bytes, the low one first, and the record's bytes. It writes a line such as `covers 1 keep first` (or `second`, or
+// The search desk on a pair of records, or on many in one start: for each pair it reads a byte, how many places an atom of
+// them has, and two records, each a length of four bytes, the low one first, and the record's bytes. It writes a line such as `covers 1 keep first` (or `second`, or
 // `none`); then of the record that is kept, for each variable where it goes, `v0 to c1`, and for each atom which atom of
 // the other it meets, `r0(v0) meets r0(c1)`; then a line with a single full stop. It ends at a pair that is not all
 // there, or at a record that is longer than the buffer.
@@ -68,8 +68,8 @@ fn same(a: &[u8], b: &[u8]) -> bool {
 }
 
 // Writes which record is kept: the first wherever the bytes are its own, since of two that are the same it is the one.
-fn tell_kept<'a>(first: &'a [u8], second: &'a [u8]) {
-    let kept = cover::keep(first, second);
+fn tell_kept<'a>(first: &'a [u8], second: &'a [u8], w: usize) {
+    let kept = cover::keep(first, second, w);
     if kept.len() == 0 {
         put(b"none");
         return;
@@ -82,32 +82,36 @@ fn tell_kept<'a>(first: &'a [u8], second: &'a [u8]) {
 }
 
 // Writes by which map the record that is kept covers the other.
-fn tell_why(first: &[u8], second: &[u8]) {
-    let kept = cover::kept(first, second);
+fn tell_why(first: &[u8], second: &[u8], w: usize) {
+    let kept = cover::kept(first, second, w);
     let map = kept.map;
     let which = kept.which;
     if which == 1 {
-        tell_map(first, second, &map);
+        tell_map(first, second, w, &map);
     }
     if which == 2 {
-        tell_map(second, first, &map);
+        tell_map(second, first, w, &map);
     }
 }
 
 // Answers a pair.
-fn answer<'a>(first: &'a [u8], second: &'a [u8]) {
-    let covered = cover::covers(first, second);
+fn answer<'a>(first: &'a [u8], second: &'a [u8], w: usize) {
+    let covered = cover::covers(first, second, w);
     put(b"covers ");
     io::print_decimal(STDOUT_FILENO, covered.number as u64);
     put(b" keep ");
-    tell_kept(first, second);
+    tell_kept(first, second, w);
     put(b"\n");
-    tell_why(first, second);
+    tell_why(first, second, w);
     put(b".\n");
 }
 
 // Answers the next pair, and whether there was one.
 fn answer_next() -> bool {
+    let mut places = [0u8; 1];
+    if io::read_full(STDIN_FILENO, &mut places) < 1 {
+        return false;
+    }
     let mut first = io::buffer();
     let read = read_record(&mut first);
     let Got::Record(n) = read else {
@@ -118,7 +122,7 @@ fn answer_next() -> bool {
     let Got::Record(m) = read_second else {
         return false;
     };
-    answer(&first[..n], &second[..m]);
+    answer(&first[..n], &second[..m], wide(places[0]));
     true
 }
 

@@ -17,10 +17,10 @@ fn main() {
 pub fn show<'a>(name: &[u8], first: &'a [u8], second: &'a [u8]) {
     io::write_all(1, name);
     io::write_all(1, b": ");
-    let covered = cover::covers(first, second);
+    let covered = cover::covers(first, second, 4);
     io::print_decimal(1, covered.number as u64);
     io::write_all(1, b", keeps");
-    numbers(cover::keep(first, second));
+    numbers(cover::keep(first, second, 4));
     io::write_all(1, b"\n");
 }
 

@@ -14,6 +14,7 @@ use Rattle.covering.specs.Covers.{Covers}
 use Rattle.covering.specs.Form.{form}
 use Rattle.covering.specs.Rule.{Rule}
 use Rattle.covering.specs.Asking.{NoRecord, asking, joined, Shaped}
+use Rattle.reading.specs.Header.{atomPlaces}
 use Rattle.reading.specs.Book.{bookOf}
 use Rattle.reading.specs.Verdict.{SoundBook}
 use Rattle.unification.specs.Choice.{Ascending, number as choiceNumber, choices, someSent}
@@ -52,13 +53,13 @@ pub record Demand1 (book out : List ℕ) (number place : ℕ) (after : List ℕ)
 -- DEMAND 2. "The union and the explored count are those of the defined run"
 pub record Demand2 (book out : List ℕ) (number place : ℕ) (after : List ℕ) : Type 1 where
   -- what the bytes say is what the run, in single steps, completes with ..
-  pub the-run : number ≡ 0 → Completes book (length out) (membersOf (answersOf book) after) (exploredOf after)
+  pub the-run : number ≡ 0 → Completes book (length out) (membersOf (atomPlaces book) (answersOf book) after) (exploredOf after)
   -- .. and whenever it completes, that is given
   pub every-run : {U : List Question} {n : ℕ} → Completes book (length out) U n
-      → (number ≡ 0) × (membersOf (answersOf book) after ≡ U) × (exploredOf after ≡ n)
+      → (number ≡ 0) × (membersOf (atomPlaces book) (answersOf book) after ≡ U) × (exploredOf after ≡ n)
   -- of 01, "the place is the total length written", and up to there every byte is the union's
-  pub the-place : number ≡ 0 → place ≡ total (membersOf (answersOf book) after)
-  pub the-bytes : number ≡ 0 → take place after ≡ unionBytes (membersOf (answersOf book) after) (exploredOf after)
+  pub the-place : number ≡ 0 → place ≡ total (atomPlaces book) (membersOf (atomPlaces book) (answersOf book) after)
+  pub the-bytes : number ≡ 0 → take place after ≡ unionBytes (atomPlaces book) (membersOf (atomPlaces book) (answersOf book) after) (exploredOf after)
   -- "over exactly the one-step rewritings of `unify`.": of 01, "go through rules in book order", by each rule through
   -- the rewritings that it lists ..
   pub the-steps : (M : Question)
@@ -89,30 +90,30 @@ pub record Demand3 (book after : List ℕ) : Type 0 where
   -- in which the book's question holds."; with answer places, "of each row of named things" (02, a): some member gives
   -- the row exactly when a chain reaches facts in which the question gives it
   pub rows : (row : List ℕ) (F : Question) → Ledger (bookOf book .places) F
-      → SomeGives (membersOf (answersOf book) after) row F ↔ DerivesRow (bookOf book .rules) (bookOf book .question) row F
+      → SomeGives (membersOf (atomPlaces book) (answersOf book) after) row F ↔ DerivesRow (bookOf book .rules) (bookOf book .question) row F
   -- And so it is of every finite set of facts, over constants and unknowns and over any relations but the record's.
   pub any-rows : (row : List ℕ) (F : Question) → NoRecord F
-      → SomeGives (membersOf (answersOf book) after) row F ↔ DerivesRow (bookOf book .rules) (bookOf book .question) row F
+      → SomeGives (membersOf (atomPlaces book) (answersOf book) after) row F ↔ DerivesRow (bookOf book .rules) (bookOf book .question) row F
   -- Without answer places it is 01's sentence, of ledgers and of every finite set of facts.
   pub ledgers : bookOf book .question .answer ≡ [] → (F : Question) → Ledger (bookOf book .places) F
-      → SomeHolds (membersOf (answersOf book) after) F ↔ Derives (bookOf book .rules) (bookOf book .question .atoms) F
+      → SomeHolds (membersOf (atomPlaces book) (answersOf book) after) F ↔ Derives (bookOf book .rules) (bookOf book .question .atoms) F
   pub answers : bookOf book .question .answer ≡ [] → (F : Question)
-      → SomeHolds (membersOf (answersOf book) after) F ↔ Derives (bookOf book .rules) (bookOf book .question .atoms) F
+      → SomeHolds (membersOf (atomPlaces book) (answersOf book) after) F ↔ Derives (bookOf book .rules) (bookOf book .question .atoms) F
   -- "No member covers another."
-  pub apart-from-others : Apart Covers (membersOf (answersOf book) after)
+  pub apart-from-others : Apart Covers (membersOf (atomPlaces book) (answersOf book) after)
   -- "Each is reached from the question by rewriting steps."
-  pub reached : (M : Question) → M ∈ membersOf (answersOf book) after
+  pub reached : (M : Question) → M ∈ membersOf (atomPlaces book) (answersOf book) after
       → Reached apart (bookOf book .rules) (joined (bookOf book .question)) M
   -- "There are 1 to 64 members of 1 to 8 atoms, each a form."; with rules of empty bodies (02, c) of 0 to 8
-  pub some-member : 1 ≤ length (membersOf (answersOf book) after)
-  pub most-members : length (membersOf (answersOf book) after) ≤ 64
-  pub most-atoms : (M : Question) → M ∈ membersOf (answersOf book) after → length (asking M .atoms) ≤ 8
-  pub formed : (M : Question) → M ∈ membersOf (answersOf book) after → form M ≡ M
+  pub some-member : 1 ≤ length (membersOf (atomPlaces book) (answersOf book) after)
+  pub most-members : length (membersOf (atomPlaces book) (answersOf book) after) ≤ 64
+  pub most-atoms : (M : Question) → M ∈ membersOf (atomPlaces book) (answersOf book) after → length (asking M .atoms) ≤ 8
+  pub formed : (M : Question) → M ∈ membersOf (atomPlaces book) (answersOf book) after → form M ≡ M
   -- with answer places (02, a): each has its answer record first and no other, with as many places as the question's,
   -- and every answer variable stands in an atom of its member
-  pub shaped : (M : Question) → M ∈ membersOf (answersOf book) after → Shaped (length (bookOf book .question .answer)) M
+  pub shaped : (M : Question) → M ∈ membersOf (atomPlaces book) (answersOf book) after → Shaped (length (bookOf book .question .answer)) M
   -- "no member has an answer variable outside its atoms, so one without atoms has only constants to answer" (02, c)
-  pub only-constants : (M : Question) → M ∈ membersOf (answersOf book) after → asking M .atoms ≡ []
+  pub only-constants : (M : Question) → M ∈ membersOf (atomPlaces book) (answersOf book) after → asking M .atoms ≡ []
       → (t : Term) → t ∈ asking M .answer → (c : ℕ) × (t ≡ con c)
 
 module _ {book out : List ℕ} {number place : ℕ} {after : List ℕ} (given : Answers book out number place after) where
@@ -166,10 +167,10 @@ module _ {book out : List ℕ} {number place : ℕ} {after : List ℕ} (given : 
       sound : SoundBook book
       sound = whole-given given zero .sound
 
-      ran : outcomeOf book ≡ complete (membersOf (answersOf book) after) (exploredOf after)
+      ran : outcomeOf book ≡ complete (membersOf (atomPlaces book) (answersOf book) after) (exploredOf after)
       ran = the-outcome given zero
 
       left :
           Left Covers (allRewritings (bookOf book .rules)) (joined (bookOf book .question)) (Member book)
-          (membersOf (answersOf book) after)
+          (membersOf (atomPlaces book) (answersOf book) after)
       left = whole book sound ran

@@ -6,6 +6,7 @@ pub mod Small
 pub mod Admits
 pub mod YetToCome
 pub mod Turns
+pub mod Dropping
 pub mod Ends
 -- what holds wherever the run comes to, and what a complete run leaves
 pub mod States
@@ -31,6 +32,8 @@ pub mod Standing
 pub mod Refused
 pub mod Returns
 pub mod Given
+-- the two forms of a book
+pub mod Alike
 -- the three demands
 pub mod Demands
 pub mod Examples

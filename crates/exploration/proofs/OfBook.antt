@@ -1,8 +1,9 @@
 -- The run of a sound book: what its members are, and what a complete union is worth. Assumes nothing.
-use mathlib.Core.Path.{_≡_, refl, sym, _∙_, subst}
+use mathlib.Core.Path.{_≡_, refl, sym, _∙_, ap, subst}
 use mathlib.Core.Logic.{_↔_}
 use mathlib.Core.List.{List, []}
-use Prim.Native.Nat.{ℕ, _+_, _≤_}
+use Prim.Native.Nat.{ℕ, _+_, _*_, _≤_}
+use native.Mathlib.Nat.{mul-le-mul-right}
 use native.Mathlib.Omega.{arith}
 use lib.ListN.{length}
 use Rattle.covering.specs.Lists.{_∈_}
@@ -10,13 +11,13 @@ use Rattle.covering.specs.Term.{Question, Below, Term}
 use Rattle.covering.specs.Covers.{Covers}
 use Rattle.covering.specs.Search.{covers}
 use Rattle.covering.specs.Form.{form}
-use Rattle.covering.specs.Record.{stored, Fits, Layout}
+use Rattle.covering.specs.Record.{holding, stored, Fits, Layout}
 use Rattle.covering.proofs.Preorder.{covers-refl, covers-trans}
 use Rattle.covering.proofs.Decides.{covers-decides}
 use Rattle.covering.proofs.Form.{form-equivalent}
 use Rattle.covering.proofs.SameForm.{form-form}
 use Rattle.covering.proofs.Fitting.{form-fits}
-use Rattle.covering.proofs.Wider.{Wider, fits-wider}
+use Rattle.covering.proofs.Wider.{Wider, fits-wider, fits-places}
 use Rattle.covering.proofs.Shaped.{shaped-joined, shaped-length, records-same, form-shaped}
 use Rattle.covering.proofs.AnswerVariables.{form-joined-below}
 use Rattle.covering.proofs.Asked.{after-in}
@@ -24,7 +25,8 @@ use Rattle.covering.specs.Rule.{Rule}
 use Rattle.covering.specs.Asking.{Asking, asking, joined, records, NoRecord, withAnswer, Shaped}
 use Rattle.reading.specs.Book.{bookOf, layoutOf}
 use Rattle.reading.specs.Verdict.{SoundBook}
-use Rattle.reading.specs.Header.{answerRecords}
+use Rattle.reading.specs.Header.{atomPlaces, answerRecords}
+use Rattle.reading.proofs.Forms.{form-known}
 use Rattle.reading.proofs.SoundBook.{own-room, sound-header, BookRoom}
 use Rattle.reading.proofs.Fits.{body-few, body-fits, head-fits, question-record, rules-free, question-few}
 use Rattle.reading.proofs.QuestionRead.{question-free, question-stands, question-records}
@@ -68,13 +70,27 @@ module _ (B : List ℕ) where
   abbrev pub places : ℕ
   places = length (bookOf B .question .answer)
 
-  -- what each member is: a form of at most 8 atoms over the book's relations, places and constants with variables below
-  -- 32, reached from the question, with an answer record exactly if the question has one and as many places in it
+  -- what each member is: a form of at most 8 atoms over the book's relations, places and constants, with variables below
+  -- 8 times the places of an atom, reached from the question, with an answer record exactly if the question has one and as many places in it
   pub record Member (M : Question) : Type 0 where
     pub fits : Fits (layoutOf B) M
     pub shaped : Shaped (length (bookOf B .question .answer)) M
     pub formed : form M ≡ M
     pub reached : Reached apart (bookOf B .rules) (joined (bookOf B .question)) M
+
+  -- a form's variables are 8 times its places
+  own-layout : roomFor (layoutOf B) (answerRecords B) 8 ≡ layoutOf B
+  own-layout = ap (withVariables (layoutOf B) (answerRecords B) 8) (sym (form-known B .variables-are))
+
+  as-room : {M : Question} → Fits (layoutOf B) M → Fits (roomFor (layoutOf B) (answerRecords B) 8) M
+  as-room {M} f = subst (λ (L : Layout). Fits L M) (sym own-layout) f
+
+  as-own : {M : Question} → Fits (roomFor (layoutOf B) (answerRecords B) 8) M → Fits (layoutOf B) M
+  as-own {M} f = subst (λ (L : Layout). Fits L M) own-layout f
+
+  -- rules are moved above them
+  above : 8 * atomPlaces B ≤ apart
+  above = omega (arith, form-known B .variables-are, form-known B .few-variables)
 
   module _ (s : SoundBook B) where
     -- its rules fit its own layout
@@ -105,20 +121,27 @@ module _ (B : List ℕ) where
     -- the form of the question: its variables are those of its atoms
     question-form-fits : Fits (layoutOf B) (form askedOf)
     question-form-fits =
-        narrowed-fits (layoutOf B) (answerRecords B) 8 64
-        (form-fits wide askedOf (omega (arith, records-few B)) (question-record B wide room s (λ t. t) (omega arith)))
-        (form-joined-below 8 4 (bookOf B .question) (question-free B s) (question-stands B s) (question-few B s)
-        (λ a m. question-own B s .each a (after-in (bookOf B .question .answer) (bookOf B .question .atoms) m) .places))
+        as-own
+        (narrowed-fits (layoutOf B) (answerRecords B) 8 96
+        (form-fits wide askedOf fewer (question-record B wide room s (λ t. t) (omega arith)))
+        (form-joined-below 8 (atomPlaces B) (bookOf B .question) (question-free B s) (question-stands B s) (question-few B s)
+        (λ a m. question-own B s .each a (after-in (bookOf B .question .answer) (bookOf B .question .atoms) m) .places)))
       where
         wide : Layout
-        wide = withVariables (layoutOf B) (answerRecords B) 8 64
+        wide = withVariables (layoutOf B) (answerRecords B) 8 96
+
+        fewer : (8 + answerRecords B) * atomPlaces B ≤ 96
+        fewer =
+            let one : (8 + answerRecords B) * atomPlaces B ≤ 9 * atomPlaces B =
+            mul-le-mul-right (atomPlaces B) (omega (arith, records-few B)) in
+            omega (arith, form-known B .few-places)
 
         room : BookRoom B wide
         room =
             record {
               relations-fit = own-room B .relations-fit;
               places-are = own-room B .places-are;
-              variables-fit = omega arith;
+              variables-fit = omega (arith, form-known B .few-variables);
               constants-fit = own-room B .constants-fit;
             }
 
@@ -132,7 +155,7 @@ module _ (B : List ℕ) where
         }
 
     pub member-below : {M : Question} → Member M → Below apart M
-    member-below m = fits-below (layoutOf B) (m .fits)
+    member-below m n x = omega (arith, fits-below (layoutOf B) (m .fits) n x, form-known B .few-variables)
 
     -- the variables' bound is kept: a rewriting of a member that is short enough to become one is like a member
     pub next-member : (M : Question) → Member M → (P : Question) → P ∈ allRewritings rulesOf M
@@ -140,13 +163,17 @@ module _ (B : List ℕ) where
     next-member M m P x few =
         let y = gather-out (λ r. rewritings apart r M) rulesOf x in
         let f = rules-fit (y .0) (y .1) in
-        let t = rewriting-of-shape (layoutOf B) (answerRecords B) 8 shape-count (m .fits) (m .shaped) f (y .2) in
+        let g = as-room (m .fits) in
+        let t =
+        rewriting-of-shape (layoutOf B) (answerRecords B) 8 shape-count g (m .shaped) f apart above (y .2) in
         record {
           fits =
-              rewriting-fits (layoutOf B) (answerRecords B) 8 shape-count (m .fits) (m .shaped) f (y .2) 8
-              (omega (arith, shape-count P t, question-records B s));
+              as-own
+              (rewriting-fits (layoutOf B) (answerRecords B) 8 shape-count g (m .shaped) f apart above (y .2) 8
+              (omega (arith, shape-count P t, question-records B s)));
           shaped = t;
-          formed = rewriting-formed (layoutOf B) (answerRecords B) 8 shape-count (m .fits) (m .shaped) f (y .2);
+          formed =
+              rewriting-formed (layoutOf B) (answerRecords B) 8 shape-count g (m .shaped) f apart above (y .2);
           reached = by-step (y .0) (y .1) (member-below m) (m .reached) (y .2);
         }
 
@@ -207,33 +234,41 @@ module _ (B : List ℕ) where
           (λ M m. whole .good M m .shaped)
 
     -- a record has room for members, and for rewritings of members before they are counted
-    wider : (m : ℕ) → m ≤ 11 → Wider (roomFor (layoutOf B) (answerRecords B) m) stored
+    wider : (m : ℕ) → m ≤ 11 → Wider (roomFor (layoutOf B) (answerRecords B) m) (holding (atomPlaces B))
     wider m h =
+        let one : m * atomPlaces B ≤ 11 * atomPlaces B = mul-le-mul-right (atomPlaces B) h in
         record {
           relations = sound-header B s .few-relations;
           answers = λ t. tt;
           places = refl;
-          variables = omega arith;
+          variables = omega (arith, one, form-known B .few-places);
           constants = sound-header B s .few-constants;
         }
 
+    pub holding-fits : {M : Question} → Fits (layoutOf B) M → Fits (holding (atomPlaces B)) M
+    holding-fits f =
+        fits-wider _ (holding (atomPlaces B)) (wider 8 (omega arith)) (omega (arith, records-few B)) (as-room f)
+
+    -- inside, an atom has six places
     pub stored-fits : {M : Question} → Fits (layoutOf B) M → Fits stored M
-    stored-fits f = fits-wider _ stored (wider 8 (omega arith)) (omega (arith, records-few B)) f
+    stored-fits f = fits-places (form-known B .few-places) (holding-fits f)
 
     pub rewriting-stored : (M : Question) → Fits (layoutOf B) M → Shaped (length (bookOf B .question .answer)) M
         → (P : Question) → P ∈ allRewritings rulesOf M → Fits stored P
     rewriting-stored M m t P x =
         let y = gather-out (λ r. rewritings apart r M) rulesOf x in
         let f = rules-fit (y .0) (y .1) in
-        let h = rewriting-short (layoutOf B) (answerRecords B) 8 shape-count m t f (y .2) in
-        fits-wider _ stored (wider 11 (omega arith)) (omega (arith, records-few B))
-        (rewriting-fits (layoutOf B) (answerRecords B) 8 shape-count m t f (y .2) 11 (omega arith))
+        let h = rewriting-short (layoutOf B) (answerRecords B) 8 shape-count (as-room m) t f apart above (y .2) in
+        fits-places (form-known B .few-places)
+        (fits-wider _ (holding (atomPlaces B)) (wider 11 (omega arith)) (omega (arith, records-few B))
+        (rewriting-fits (layoutOf B) (answerRecords B) 8 shape-count (as-room m) t f apart above (y .2) 11
+        (omega arith)))
 
     -- a member as it is written: its answer record is not counted
-    pub written-member : {M : Question} → Member M → Written (answersOf B) M
+    pub written-member : {M : Question} → Member M → Written (atomPlaces B) (answersOf B) M
     written-member {M} m =
         record {
-          fits = stored-fits (m .fits);
+          fits = holding-fits (m .fits);
           is = m .shaped .is;
           count = omega (arith, shape-count M (m .shaped), question-records B s);
         }

@@ -8,6 +8,7 @@ use lib.Dec.{eqb, ltb}
 use borrow.Author.Tests.{le-ltb, eq-eqb, ne-eqb, lt-ltb}
 use lib.ListN.{length, drop}
 use Rattle.covering.specs.Term.{Question}
+use Rattle.reading.specs.Header.{atomPlaces}
 use Rattle.reading.specs.Verdict.{verdict, SoundBook}
 use Rattle.exploration.specs.Run.{Why, refusalNumber, complete, refused}
 use Rattle.exploration.specs.Union.{outputSize, total, unionBytes}
@@ -24,10 +25,10 @@ module _ (book out : List ℕ) where
   unfolding result read
   result-is = refl
 
-  given : (r : Result) → result book (length out) ≡ r → Answers book out (answer r .0) (answer r .1) (written r out)
+  given : (r : Result) → result book (length out) ≡ r → Answers book out (answer (atomPlaces book) r .0) (answer (atomPlaces book) r .1) (written (atomPlaces book) r out)
   unfolding answerOf writtenOf
   given r e =
-      record { answers = ap answer (sym e); writes = ap (λ (x : Result). written x out) (sym e) }
+      record { answers = ap (answer (atomPlaces book)) (sym e); writes = ap (λ (x : Result). written (atomPlaces book) x out) (sym e) }
 
   pub returns-small : length out < outputSize → Answers book out 1 0 out
   returns-small l =
@@ -59,5 +60,5 @@ module _ (book out : List ℕ) where
       returns-refused {w} {p} e = given (refusal (refusalNumber w) p) (result-ran ∙ ap resultOf e)
 
       pub returns-union : {U : List Question} {n : ℕ} → outcomeOf book ≡ complete U n
-          → Answers book out 0 (total U) (unionBytes U n ++ drop (total U) out)
+          → Answers book out 0 (total (atomPlaces book) U) (unionBytes (atomPlaces book) U n ++ drop (total (atomPlaces book) U) out)
       returns-union {U} {n} e = given (union U n) (result-ran ∙ ap resultOf e)

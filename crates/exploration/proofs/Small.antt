@@ -1,7 +1,7 @@
 -- The variables' bound, and that a record has room: a question in form of at most m atoms of at most p places, whose
 -- answer variables stand in them, has its variables below m x p, and takes its relations, its numbers of places and its
--- constants from the question and the rules. So rewritings of a member of at most 8 atoms of at most 4 places are apart
--- from rules moved up by 32, and a rewriting of at most 11 atoms and an answer record fits a record. Assumes nothing.
+-- constants from the question and the rules. So rewritings of a member of at most 8 atoms of at most 6 places are apart
+-- from rules moved up by 48, and a rewriting of at most 11 atoms and an answer record fits a record. Assumes nothing.
 use mathlib.Core.Path.{_≡_, refl, sym, subst}
 use mathlib.Core.Logic.{_⊎_, inl, inr}
 use mathlib.Core.List.{_++_, List·Memᴰ·append-cases}
@@ -129,16 +129,16 @@ module _ (L : Layout) where
   module _ (answers cap : ℕ) {n : ℕ} {r : Rule} {M P : Question}
       (count : (X : Question) → Shaped n X → length X ≡ answers + length (asking X .atoms))
       (member : Fits (roomFor L answers cap) M) (shaped : Shaped n M) (fits : RuleFits L r)
-      (x : P ∈ rewritings (cap * L .places) r M)
+      (k : ℕ) (above : cap * L .places ≤ k) (x : P ∈ rewritings k r M)
     where
-      abbrev k : ℕ
-      k = cap * L .places
-
       made : (i : ℕ) × Made k r M i P
       made = rewritings-out x
 
       below : Below k M
-      below i m = let y = terms-out M m in member .each (y .0) (y .1) .terms (var i) (y .2)
+      below i m =
+          let y = terms-out M m in
+          let low : i < cap * L .places = member .each (y .0) (y .1) .terms (var i) (y .2) in
+          omega arith
 
       pub rewriting-formed : form P ≡ P
       rewriting-formed = listed-form (made .1)

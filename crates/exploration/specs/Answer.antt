@@ -7,6 +7,7 @@ use Prim.Native.Nat.{ℕ}
 use lib.Dec.{eqb, ltb}
 use lib.ListN.{length, drop}
 use Rattle.covering.specs.Term.{Question}
+use Rattle.reading.specs.Header.{atomPlaces}
 use Rattle.reading.specs.Book.{bookOf}
 use Rattle.reading.specs.Verdict.{verdict}
 use Rattle.exploration.specs.Run.{Outcome, complete, refused, refusalNumber, run}
@@ -26,7 +27,7 @@ resultOf (refused w p) = refusal (refusalNumber w) p
 abbrev pub outcomeOf : List ℕ → Outcome
 outcomeOf B = run (bookOf B .rules) (bookOf B .allowed) (bookOf B .question)
 
--- "The smallest applicable number among 1 to 7 wins": 1, output under 2,952 bytes (02, a), at place 0 and without looking
+-- "The smallest applicable number among 1 to 7 wins": 1, output under 4,104 bytes (02, i), at place 0 and without looking
 -- at the book; then the book's own, 2 to 7 and 11; then the run
 unfoldable pub result : List ℕ → ℕ → Result
 result B room =
@@ -35,22 +36,22 @@ result B room =
     cond (ltb room outputSize) (refusal 1 0) read
 
 -- "The answer is a number and a place. 0 means complete, and the place is the total length written."
-abbrev pub answer : Result → ℕ × ℕ
-answer (union U n) = (0, total U)
-answer (refusal n p) = (n, p)
+abbrev pub answer : ℕ → Result → ℕ × ℕ
+answer w (union U n) = (0, total w U)
+answer w (refusal n p) = (n, p)
 
 -- "Bytes of the output after the total are not touched."; "Every other number means that no output byte changed."
-abbrev pub written : Result → List ℕ → List ℕ
-written (union U n) out = unionBytes U n ++ drop (total U) out
-written (refusal n p) out = out
+abbrev pub written : ℕ → Result → List ℕ → List ℕ
+written w (union U n) out = unionBytes w U n ++ drop (total w U) out
+written w (refusal n p) out = out
 
--- the answer to a book and an output of so many bytes
+-- the answer to a book and an output of so many bytes: "Members use seven bytes too", as the book's atoms do
 unfoldable pub answerOf : List ℕ → ℕ → ℕ × ℕ
-answerOf B room = answer (result B room)
+answerOf B room = answer (atomPlaces B) (result B room)
 
 -- the output's bytes at exit, for a book and the output's bytes at entry
 unfoldable pub writtenOf : List ℕ → List ℕ → List ℕ
-writtenOf B out = written (result B (length out)) out
+writtenOf B out = written (atomPlaces B) (result B (length out)) out
 
 -- What a function gives that answers a book: its contract. `out` is the output at entry, `after` at exit.
 pub record Answers (book out : List ℕ) (number place : ℕ) (after : List ℕ) : Type 0 where

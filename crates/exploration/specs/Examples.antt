@@ -13,7 +13,9 @@ use Rattle.covering.specs.Rule.{Rule}
 use Rattle.unification.specs.Examples.{StepExample, at1, at2, v0, v1, example4, example5, example6, example7, example8}
 use Rattle.unification.specs.Examples.{example9}
 use Rattle.exploration.specs.Run.{Limits, Outcome, complete, allRewritings, runBy, run}
-use Rattle.exploration.specs.Union.{outputSize, wordBytes}
+use Rattle.reading.specs.Word.{wordBytes}
+use Rattle.reading.specs.Header.{atomPlaces}
+use Rattle.exploration.specs.Union.{outputSize}
 use Rattle.exploration.specs.Answer.{result, answer, written}
 
 -- a book in bytes and an output of so many bytes, each of them 7: the number and the place, and the output's first
@@ -42,7 +44,8 @@ outputOf e = replicate (e .room) 7
 abbrev pub given : BookExample → (ℕ × ℕ) × List ℕ
 given e =
     let r = result (e .book) (e .room) in
-    (answer r, take (length (e .bytes)) (written r (outputOf e)))
+    let w = atomPlaces (e .book) in
+    (answer w r, take (length (e .bytes)) (written w r (outputOf e)))
 
 -- the definitions say the same
 abbrev pub Right : Example → Type 0
@@ -95,7 +98,7 @@ examples =
     ∷ running (example9 .rule ∷ []) 10 (example9 .question) (complete (example9 .question ∷ (at1 0 v0 ∷ []) ∷ []) 2)
     ∷ []
 
--- a book's answer with an output of 2,952 bytes, and the output's first bytes
+-- a book's answer with an output of 4,104 bytes, and the output's first bytes
 abbrev pub answered : List ℕ → ℕ × ℕ → List ℕ → BookExample
 answered B a bytes = record { book = B; room = outputSize; answer = a; bytes = bytes }
 

@@ -4,32 +4,29 @@ use mathlib.Core.List.{List, [], _∷_, _++_, map}
 use Prim.Native.Nat.{ℕ, _+_, _*_}
 use lib.ListN.{length, replicate}
 use Rattle.covering.specs.Lists.{gather, numbers}
-use Rattle.covering.specs.Term.{con, Question}
-use Rattle.covering.specs.Record.{stored, atomBytes}
-use Rattle.covering.specs.Asking.{Asking, joined}
+use Rattle.covering.specs.Term.{Term, Atom, var, con, Question}
+use Rattle.covering.specs.Asking.{Asking}
 use Rattle.covering.specs.Rule.{Rule}
+use Rattle.reading.specs.Header.{BookForm, old, new}
+use Rattle.reading.specs.Written.{bookBytes}
 use Rattle.unification.specs.Examples.{at1, at2, v0, v1, v2, example9}
 use Rattle.exploration.specs.Run.{too-long, none-left, refused}
 use Rattle.exploration.specs.Examples.{BookExample, Example, limited, answering, rewritten, c0, rule}
-use Rattle.exploration.specs.Examples.{answered, untouched, header}
+use Rattle.exploration.specs.Examples.{answered, untouched}
 use Rattle.exploration.specs.Examples.{printed-book, printed-once, depth-two}
 
--- a stored book: its relations' places, how many constants, the explorations allowed, its rules and its question
-abbrev ruleBytes : Rule → List ℕ
-ruleBytes r = length (r .body) ∷ length (r .head) ∷ gather (atomBytes stored) (r .body ++ r .head)
+-- a stored book in the old form: its relations' places, how many constants, the explorations allowed, its rules and its
+-- question
+abbrev inForm : BookForm → List ℕ → ℕ → ℕ → List Rule → Asking → List ℕ
+inForm f places C L rules q =
+    bookBytes f (record { places = places; constants = C; rules = rules; question = q; allowed = L })
 
 abbrev askingBook : List ℕ → ℕ → ℕ → List Rule → Asking → List ℕ
-askingBook places C L rules q =
-    let rs = gather ruleBytes rules in
-    let at-rules = 18 + length places in
-    let at-question = at-rules + length rs in
-    let ends = at-question + 5 * length (joined q) in
-    header (length places ∷ C ∷ length rules ∷ length (q .atoms) ∷ L ∷ 18 ∷ at-rules ∷ at-question ∷ ends ∷ [])
-    ++ (places ++ (rs ++ gather (atomBytes stored) (joined q)))
+askingBook places C L rules q = inForm old places C L rules q
 
 -- one that asks for a yes
-abbrev bookBytes : List ℕ → ℕ → ℕ → List Rule → Question → List ℕ
-bookBytes places C L rules Q = askingBook places C L rules (record { answer = []; atoms = Q })
+abbrev yesBook : List ℕ → ℕ → ℕ → List Rule → Question → List ℕ
+yesBook places C L rules Q = askingBook places C L rules (record { answer = []; atoms = Q })
 
 -- so many relations of one place
 abbrev ones : ℕ → List ℕ
@@ -40,7 +37,7 @@ abbrev to-first : ℕ → Rule
 to-first i = rule (at1 i v0 ∷ []) (at1 0 v0 ∷ [])
 
 abbrev example10 : ℕ → ℕ → List ℕ
-example10 n L = bookBytes (ones (1 + n)) 2 L (map to-first (numbers 1 n)) (at1 0 c0 ∷ at1 0 (con 1) ∷ [])
+example10 n L = yesBook (ones (1 + n)) 2 L (map to-first (numbers 1 n)) (at1 0 c0 ∷ at1 0 (con 1) ∷ [])
 
 -- "with L = 64 complete, 64 members"
 abbrev pub example10-whole : BookExample
@@ -58,7 +55,7 @@ example10-eighth = answered (example10 8 1000) (9, 9) untouched
 abbrev pub example11 : BookExample
 example11 =
     answered
-    (bookBytes (2 ∷ []) 2 100 (rule (at2 0 v0 v1 ∷ at2 0 v1 v2 ∷ []) (at2 0 v0 v2 ∷ []) ∷ []) (at2 0 c0 (con 1) ∷ []))
+    (yesBook (2 ∷ []) 2 100 (rule (at2 0 v0 v1 ∷ at2 0 v1 v2 ∷ []) (at2 0 v0 v2 ∷ []) ∷ []) (at2 0 c0 (con 1) ∷ []))
     (8, 8) untouched
 
 -- "Take up the oldest unexplored member; go through rules in book order": p1(x) to p0(x), p2(x) to p0(x), p3(x) to
@@ -67,7 +64,7 @@ example11 =
 abbrev pub oldest-first : BookExample
 oldest-first =
     answered
-    (bookBytes (ones 5) 0 10
+    (yesBook (ones 5) 0 10
     (to-first 1
     ∷ to-first 2
     ∷ rule (at1 3 v0 ∷ []) (at1 1 v0 ∷ [])
@@ -82,6 +79,35 @@ oldest-first =
     ∷ 1 ∷ 3 ∷ 0 ∷ 255 ∷ 255 ∷ 255
     ∷ 1 ∷ 4 ∷ 0 ∷ 255 ∷ 255 ∷ 255 ∷ untouched)
 
+-- "Members use seven bytes too" (02, i): the book that 01 prints, in the new form. With five bytes an atom it would be 25
+-- in all.
+abbrev printed-rule : Rule
+printed-rule = rule (at1 0 v0 ∷ []) (at1 1 v1 ∷ at2 2 v0 v1 ∷ [])
+
+abbrev pub printed-new : BookExample
+printed-new =
+    answered
+    (inForm new (1 ∷ 1 ∷ 2 ∷ []) 0 10 (printed-rule ∷ []) (record { answer = []; atoms = at1 1 v0 ∷ at2 2 v1 v0 ∷ [] }))
+    (0, 31)
+    (2 ∷ 0 ∷ 2 ∷ 0 ∷ 8 ∷ 0 ∷ 31 ∷ 0
+    ∷ 2 ∷ 1 ∷ 0 ∷ 255 ∷ 255 ∷ 255 ∷ 255 ∷ 255 ∷ 2 ∷ 1 ∷ 0 ∷ 255 ∷ 255 ∷ 255 ∷ 255
+    ∷ 1 ∷ 0 ∷ 0 ∷ 255 ∷ 255 ∷ 255 ∷ 255 ∷ 255 ∷ untouched)
+
+-- Loan lines of six places: lent(x) to loan(x,u,y,z,w,v); question loan(v0,v1,v2,v3,v4,v5) with the first to answer with.
+-- What is lent is a member, its five unknowns gone.
+abbrev line : Term → Term → Atom
+line a b = record { rel = 1; args = a ∷ b ∷ var 2 ∷ var 3 ∷ var 4 ∷ var 5 ∷ [] }
+
+abbrev pub loan-line : BookExample
+loan-line =
+    answered
+    (inForm new (1 ∷ 6 ∷ []) 0 10 (rule (at1 0 v0 ∷ []) (line v0 v1 ∷ []) ∷ [])
+    (record { answer = v0 ∷ []; atoms = line v0 v1 ∷ [] }))
+    (0, 38)
+    (2 ∷ 0 ∷ 2 ∷ 0 ∷ 8 ∷ 0 ∷ 38 ∷ 0
+    ∷ 1 ∷ 255 ∷ 0 ∷ 255 ∷ 255 ∷ 255 ∷ 255 ∷ 255 ∷ 1 ∷ 0 ∷ 1 ∷ 2 ∷ 3 ∷ 4 ∷ 5
+    ∷ 1 ∷ 255 ∷ 0 ∷ 255 ∷ 255 ∷ 255 ∷ 255 ∷ 255 ∷ 0 ∷ 0 ∷ 255 ∷ 255 ∷ 255 ∷ 255 ∷ 255 ∷ untouched)
+
 -- "choices in theirs": of example 9 the choices of one piece, 0 1 and 1 0, come before the choice of both, 1 1. In
 -- descending order they would come after it.
 abbrev pub choices-in-order : Example
@@ -91,7 +117,7 @@ choices-in-order = rewritten example9
 -- member and two are explored; if the members were counted it would be one.
 abbrev pub removed : BookExample
 removed =
-    answered (bookBytes (ones 2) 0 10 (rule (at1 0 v0 ∷ []) (at1 1 v0 ∷ []) ∷ []) (at1 0 v0 ∷ at1 1 v0 ∷ [])) (0, 14)
+    answered (yesBook (ones 2) 0 10 (rule (at1 0 v0 ∷ []) (at1 1 v0 ∷ []) ∷ []) (at1 0 v0 ∷ at1 1 v0 ∷ [])) (0, 14)
     (1 ∷ 0 ∷ 2 ∷ 0 ∷ 8 ∷ 0 ∷ 14 ∷ 0 ∷ 1 ∷ 0 ∷ 0 ∷ 255 ∷ 255 ∷ 255 ∷ untouched)
 
 -- "If the member taken up is itself removed, its exploration stops at once": p0(x) to p1(x), p5(x) p6(x) p7(x) p8(x)
@@ -100,7 +126,7 @@ removed =
 abbrev pub stops-at-once : BookExample
 stops-at-once =
     answered
-    (bookBytes (ones 9) 4 10
+    (yesBook (ones 9) 4 10
     (rule (at1 0 v0 ∷ []) (at1 1 v0 ∷ [])
     ∷ rule (at1 5 v0 ∷ at1 6 v0 ∷ at1 7 v0 ∷ at1 8 v0 ∷ []) (at1 2 v0 ∷ [])
     ∷ [])
@@ -112,7 +138,7 @@ stops-at-once =
 -- the covering test it would be refused; with i = 5 it is refused.
 abbrev long : ℕ → List ℕ
 long i =
-    bookBytes (ones 6) 6 10 (rule (at1 1 v0 ∷ at1 2 v0 ∷ at1 3 v0 ∷ at1 i v0 ∷ []) (at1 0 v0 ∷ []) ∷ [])
+    yesBook (ones 6) 6 10 (rule (at1 1 v0 ∷ at1 2 v0 ∷ at1 3 v0 ∷ at1 i v0 ∷ []) (at1 0 v0 ∷ []) ∷ [])
     (at1 0 c0 ∷ map (λ c. at1 4 (con c)) (numbers 1 5))
 
 abbrev pub covered-long : BookExample
@@ -135,7 +161,7 @@ abbrev pub room-again : Example
 room-again = limited (record { cap = 8; room = 4 }) (fillers 1) 1 three (refused none-left 1)
 
 abbrev pub room-again-at-64 : BookExample
-room-again-at-64 = answered (bookBytes (ones 22) 3 1 (fillers 21) three) (10, 1) untouched
+room-again-at-64 = answered (yesBook (ones 22) 3 1 (fillers 21) three) (10, 1) untouched
 
 -- "8 before 9": p1(x) p2(x) to p0(x), question p0(c0), where a member may have one atom and there is room for one
 -- member. The rewriting has two atoms, and would be a second member. With 9 before 8 it would be 9.
@@ -170,17 +196,17 @@ abbrev known-rule : Rule
 known-rule = rule [] (at1 0 v0 ∷ [])
 
 abbrev pub known : BookExample
-known = answered (bookBytes (ones 1) 0 10 (known-rule ∷ []) (at1 0 v0 ∷ [])) (0, 9) (1 ∷ 0 ∷ 2 ∷ 0 ∷ 8 ∷ 0 ∷ 9 ∷ 0 ∷ 0 ∷ untouched)
+known = answered (yesBook (ones 1) 0 10 (known-rule ∷ []) (at1 0 v0 ∷ [])) (0, 9) (1 ∷ 0 ∷ 2 ∷ 0 ∷ 8 ∷ 0 ∷ 9 ∷ 0 ∷ 0 ∷ untouched)
 
 abbrev pub known-once : BookExample
-known-once = answered (bookBytes (ones 1) 0 1 (known-rule ∷ []) (at1 0 v0 ∷ [])) (10, 1) untouched
+known-once = answered (yesBook (ones 1) 0 1 (known-rule ∷ []) (at1 0 v0 ∷ [])) (10, 1) untouched
 
 -- p1(x) to p0(x), p2(x) to p1(x), p3(x) to p2(x) and the rule to p3(x), question p0(v0): everything follows from a fact.
 -- Each step is a member until the last, which covers them all and has no atoms.
 abbrev pub known-chain : BookExample
 known-chain =
     answered
-    (bookBytes (ones 4) 0 10
+    (yesBook (ones 4) 0 10
     (map (λ i. rule (at1 (1 + i) v0 ∷ []) (at1 i v0 ∷ [])) (numbers 0 3) ++ rule [] (at1 3 v0 ∷ []) ∷ [])
     (at1 0 v0 ∷ []))
     (0, 9) (1 ∷ 0 ∷ 5 ∷ 0 ∷ 8 ∷ 0 ∷ 9 ∷ 0 ∷ 0 ∷ untouched)
@@ -200,7 +226,7 @@ loose =
     answered (askingBook (ones 1) 0 10 [] (record { answer = v0 ∷ v1 ∷ []; atoms = at1 0 v0 ∷ [] })) (11, 21) untouched
 
 -- "The smallest applicable number among 1 to 7 wins": a book of no bytes is refused with 1 where the output has 2,951
--- bytes, and with 2 where it has 2,952. With the book judged first it would be 2 both times.
+-- bytes, and with 2 where it has 4,104. With the book judged first it would be 2 both times.
 abbrev pub short-output : BookExample
 short-output = record { book = []; room = 2951; answer = (1, 0); bytes = untouched }
 
@@ -213,6 +239,8 @@ more-examples =
     answering printed-book
     ∷ answering printed-once
     ∷ answering depth-two
+    ∷ answering printed-new
+    ∷ answering loan-line
     ∷ answering oldest-first
     ∷ choices-in-order
     ∷ answering removed

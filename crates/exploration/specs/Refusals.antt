@@ -16,7 +16,7 @@ use Rattle.exploration.specs.Union.{outputSize}
 
 -- "| no. | when | place |", 1 to 7, and 11
 pub data Applicable (B : List ℕ) (room : ℕ) : ℕ → ℕ → Type 0 where
-  -- 1: output under 2,952 bytes, at 0; "Output room is 2,952 for all" (02, a)
+  -- 1: output under 4,104 bytes, at 0; "Output room becomes 4,104 for all" (02, i)
   one : room < outputSize → Applicable B room 1 0
   -- 2 to 7 and 11 are the book's
   of-book : {n p : ℕ} → ApplicableToBook B n p → Applicable B room n p

@@ -142,10 +142,10 @@ module _ (cov : Test) where
       unfoldable pub runBy : ℕ → Question → Outcome
       runBy allowed Q = exploring allowed 0 (start Q)
 
--- "The rule's variables are kept apart from the question's": a member has at most 8 atoms of at most 4 places, and its
--- answer variables stand in them, so its variables are below 32
+-- "The rule's variables are kept apart from the question's": a member has at most 8 atoms of at most 6 places, and its
+-- answer variables stand in them, so its variables are below 48, and below 32 where atoms have four places
 abbrev pub apart : ℕ
-apart = 32
+apart = 48
 
 -- "go through rules in book order, choices in theirs"
 abbrev pub allRewritings : List Rule → Question → List Question

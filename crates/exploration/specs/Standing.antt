@@ -5,7 +5,7 @@ use Prim.Native.Nat.{ℕ, zero, suc, _+_, _≤_}
 use lib.ListN.{length}
 use Rattle.covering.specs.Term.{Question}
 use Rattle.covering.specs.Asking.{asking, records}
-use Rattle.covering.specs.Record.{stored, atomsAt}
+use Rattle.covering.specs.Record.{holding, atomsAt}
 use Rattle.covering.specs.Buffer.{AtomsIn}
 use Rattle.reading.specs.Word.{byte}
 use Rattle.exploration.specs.Union.{memberEnd}
@@ -15,13 +15,14 @@ pub record Counted (answers count : ℕ) (M : Question) : Type 0 where
   pub records-are : records (asking M .answer) ≡ answers
   pub atoms-are : length (asking M .atoms) ≡ count
 
--- a member stands at i: so many answer records and the atoms that it counts, sound ones, at most twelve in all
-pub record MemberAt (answers : ℕ) (W : List ℕ) (i : ℕ) : Type 0 where
-  pub most : answers + byte W i ≤ stored .atoms
-  pub atoms : AtomsIn stored W (i + 1) (answers + byte W i)
-  pub is : Counted answers (byte W i) (atomsAt stored W (i + 1) (answers + byte W i))
+-- a member stands at i, w places an atom: so many answer records and the atoms that it counts, sound ones, at most twelve
+-- in all
+pub record MemberAt (w answers : ℕ) (W : List ℕ) (i : ℕ) : Type 0 where
+  pub most : answers + byte W i ≤ holding w .atoms
+  pub atoms : AtomsIn (holding w) W (i + 1) (answers + byte W i)
+  pub is : Counted answers (byte W i) (atomsAt (holding w) W (i + 1) (answers + byte W i))
 
 -- n members stand from i on, one after the other
-unfoldable pub WrittenAt : ℕ → List ℕ → ℕ → ℕ → Type 0
-WrittenAt answers W i zero = Unit {0}
-WrittenAt answers W i (suc n) = MemberAt answers W i × WrittenAt answers W (memberEnd answers W i) n
+unfoldable pub WrittenAt : ℕ → ℕ → List ℕ → ℕ → ℕ → Type 0
+WrittenAt w answers W i zero = Unit {0}
+WrittenAt w answers W i (suc n) = MemberAt w answers W i × WrittenAt w answers W (memberEnd w answers W i) n

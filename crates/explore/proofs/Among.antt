@@ -2,7 +2,8 @@
 -- by member. Assumes nothing.
 use mathlib.Core.Path.{_≡_, refl, sym, _∙_, ap, subst}
 use mathlib.Core.Bool.{true, false, true≢false}
-use mathlib.Core.List.{List}
+use mathlib.Core.Logic.{_⊎_, inl, inr}
+use mathlib.Core.List.{List, [], _∷_}
 use mathlib.Core.Option.{Option, none, some}
 use Prim.Native.Nat.{ℕ, suc, _+_, _-_, _≤_, _<_}
 use native.Mathlib.Omega.{arith}
@@ -13,27 +14,35 @@ use Rattle.covering.specs.Lists.{head}
 use Rattle.covering.specs.Term.{Question}
 use Rattle.covering.specs.Record.{stored, questionOf}
 use Rattle.covering.specs.Rule.{Rule}
+use Rattle.covering.proofs.Tests.{le-or-lt}
 use Rattle.reading.specs.declared.Header.{Header}
 use Rattle.book.specs.declared.Parts.{Parts}
-use Rattle.reading.specs.Header.{rules, HeaderRead}
+use Rattle.reading.specs.Header.{rules, HeaderRead, formOf, new}
 use Rattle.book.specs.Parts.{StartsAt, partsAt}
 use Rattle.reading.specs.Verdict.{SoundBook}
 use Rattle.reading.proofs.SoundBook.{sound-header, sound-rule}
 use Rattle.reading.proofs.SoundQuestion.{sound-question}
-use Rattle.reading.specs.Book.{ruleAt, rulesFrom, ruleStart}
-use Rattle.reading.proofs.Reading.{rules-none, rules-more}
+use Rattle.reading.specs.Book.{ruleAt, rulesFrom, ruleStart, bookOf}
+use Rattle.reading.proofs.Reading.{rules-none, rules-more, rules-left}
 use Rattle.lister.specs.declared.Found.{Found}
-use Rattle.lister.specs.Listing.{ruleOf, RuleIn, QuestionIn, foundOf}
+use Rattle.explore.specs.declared.Taken.{Taken}
+use Rattle.lister.specs.Listing.{ruleOf, RuleIn, QuestionIn, foundOf, FoundIs}
 use Rattle.lister.specs.Counts.{mostChoices}
 use Rattle.lister.proofs.FromBook.{rule-in, rule-asked, found-within}
 use Rattle.unification.specs.Step.{next}
 use Rattle.exploration.specs.Run.{apart}
-use Rattle.explore.specs.Taking.{orLater, nextAmong, taken, NumberedRewriting}
+use Rattle.explore.specs.Taking.{orLater, nextAmong, TakenIs, NumberedRewriting}
 use Rattle.exploration.specs.Union.{firstAt}
 use Rattle.exploration.specs.Held.{heldFrom, heldEnd}
 use Rattle.exploration.specs.Held.{Standing}
 use Rattle.exploration.proofs.Standing.{Here, stands}
 use Rattle.exploration.proofs.Members.{members-more}
+
+-- an answer to one thing that is sought, with the room as it then came, is one to another that is the same
+pub told-same : {o o′ : Option NumberedRewriting} {X X′ Y : List ℕ} {t : Taken} → o′ ≡ o → X ≡ X′ → TakenIs o X t Y
+    → TakenIs o′ X′ t Y
+told-same {o′ = o′} {X = X} {Y = Y} {t = t} e same f =
+    subst (λ (Z : List ℕ). TakenIs o′ Z t Y) same (subst (λ (p : Option NumberedRewriting). TakenIs p X t Y) (sym e) f)
 
 module _ (B : List ℕ) where
   module _ (M : Question) (k n : ℕ) where
@@ -47,38 +56,69 @@ module _ (B : List ℕ) where
     unfolding nextAmong
     among-more h = ap (nextAmong M k n) (rules-more B (rules B) k h)
 
-    module _ (h : k < rules B) (f : Found) (e : f ≡ foundOf (next apart (ruleAt B (ruleStart B k)) M n)) where
+    one-more : suc k ≡ k + 1
+    one-more = omega arith
+
+    -- a rule that has none is passed over
+    pub among-passed : k < rules B → next apart (ruleAt B (ruleStart B k)) M n ≡ none
+        → nextAmong M k n (rulesFrom B (ruleStart B k) (rules B - k))
+        ≡ nextAmong M (k + 1) 0 (rulesFrom B (ruleStart B (k + 1)) (rules B - (k + 1)))
+    among-passed h e =
+        let rest = rulesFrom B (ruleStart B (k + 1)) (rules B - (k + 1)) in
+        among-more h
+        ∙ ap (λ (o : Option (ℕ × Question)). orLater k o (nextAmong M (suc k) 0 rest)) e
+        ∙ ap (λ (i : ℕ). nextAmong M i 0 rest) one-more
+
+    module _ (h : k < rules B) (X : List ℕ) (f : Found) (Y : List ℕ)
+        (e : FoundIs (next apart (ruleAt B (ruleStart B k)) M n) X f Y) where
       pub among-found : f .found ≡ true
-          → record { found = true; rule = k; choice = f .choice; rewriting = f .rewriting }
-          ≡ taken (nextAmong M k n (rulesFrom B (ruleStart B k) (rules B - k)))
-      among-found t = go (next apart (ruleAt B (ruleStart B k)) M n) e ∙ ap taken (sym (among-more h))
+          → TakenIs (nextAmong M k n (rulesFrom B (ruleStart B k) (rules B - k))) X
+          (record { found = true; rule = k; choice = f .choice }) Y
+      among-found t =
+          subst (λ (o : Option NumberedRewriting). TakenIs o X said Y) (sym (among-more h))
+          (go (next apart (ruleAt B (ruleStart B k)) M n) e)
         where
+          said : Taken
+          said = record { found = true; rule = k; choice = f .choice }
+
           later : Option NumberedRewriting
           later = nextAmong M (suc k) 0 (rulesFrom B (ruleStart B (k + 1)) (rules B - (k + 1)))
 
-          go : (o : Option (ℕ × Question)) → f ≡ foundOf o
-              → record { found = true; rule = k; choice = f .choice; rewriting = f .rewriting } ≡ taken (orLater k o later)
-          go none x = absurd (true≢false (sym t ∙ ap (λ (y : Found). y .found) x))
+          go : (o : Option (ℕ × Question)) → FoundIs o X f Y → TakenIs (orLater k o later) X said Y
+          go none x = absurd (true≢false (sym t ∙ ap (λ (y : Found). y .found) (x .answer)))
           go (some y) x =
-              ap (λ (g : Found). record { found = true; rule = k; choice = g .choice; rewriting = g .rewriting }) x
+              record {
+                answer = ap (λ (g : Found). record { found = true; rule = k; choice = g .choice }) (x .answer);
+                room = x .room;
+              }
 
       pub among-later : f .found ≡ false
-          → nextAmong M k n (rulesFrom B (ruleStart B k) (rules B - k))
-          ≡ nextAmong M (k + 1) 0 (rulesFrom B (ruleStart B (k + 1)) (rules B - (k + 1)))
-      among-later t =
-          among-more h
-          ∙ go (next apart (ruleAt B (ruleStart B k)) M n) e
-          ∙ ap (λ (i : ℕ). nextAmong M i 0 (rulesFrom B (ruleStart B (k + 1)) (rules B - (k + 1)))) (one-more k)
+          → (nextAmong M k n (rulesFrom B (ruleStart B k) (rules B - k))
+          ≡ nextAmong M (k + 1) 0 (rulesFrom B (ruleStart B (k + 1)) (rules B - (k + 1))))
+          × (Y ≡ X)
+      among-later t = go (next apart (ruleAt B (ruleStart B k)) M n) refl e
         where
-          one-more : (k : ℕ) → suc k ≡ k + 1
-          one-more k = omega arith
+          go : (o : Option (ℕ × Question)) → next apart (ruleAt B (ruleStart B k)) M n ≡ o → FoundIs o X f Y
+              → (nextAmong M k n (rulesFrom B (ruleStart B k) (rules B - k))
+              ≡ nextAmong M (k + 1) 0 (rulesFrom B (ruleStart B (k + 1)) (rules B - (k + 1))))
+              × (Y ≡ X)
+          go none i x = (among-passed h i, x .room)
+          go (some y) i x = absurd (true≢false (sym (ap (λ (g : Found). g .found) (x .answer)) ∙ t))
 
-          later : Option NumberedRewriting
-          later = nextAmong M (suc k) 0 (rulesFrom B (ruleStart B (k + 1)) (rules B - (k + 1)))
-
-          go : (o : Option (ℕ × Question)) → f ≡ foundOf o → orLater k o later ≡ later
-          go none x = refl
-          go (some y) x = absurd (true≢false (sym (ap (λ (g : Found). g .found) x) ∙ t))
+-- the first of the book's rules from the k-th on
+pub rule-here : (B : List ℕ) (k : ℕ) {r : Rule} {others : List Rule} → drop k (bookOf B .rules) ≡ r ∷ others
+    → (k < rules B) × (r ≡ ruleAt B (ruleStart B k))
+rule-here B k {r} {others} e = go (le-or-lt (rules B) k)
+  where
+    go : (rules B ≤ k) ⊎ (k < rules B) → (k < rules B) × (r ≡ ruleAt B (ruleStart B k))
+    go (inl l) = absurd (none-first (sym (rules-none B (ruleStart B k) (rules B) k l) ∙ sym (rules-left B k) ∙ e))
+      where
+        none-first : [] ≡ r ∷ others → ⊥
+        none-first z = let y : _≡_ {A = ℕ} 0 1 = cc in omega arith
+    go (inr l) = (l, first-same (sym e ∙ rules-left B k ∙ rules-more B (rules B) k l))
+      where
+        first-same : {x y : Rule} {xs ys : List Rule} → x ∷ xs ≡ y ∷ ys → x ≡ y
+        first-same z = cc
 
 -- the members from the i-th on stand from `at` on
 pub record From (W : List ℕ) (count at i : ℕ) : Type 0 where
@@ -118,7 +158,7 @@ module _ (B : List ℕ) (s : SoundBook B) where
 
   -- the rule at hand, where `starts` says
   module _ (starts : List ℕ) (a : StartsAt B starts) (k : ℕ) (l : k < rules B) where
-    start-is : getD starts k 0 ≡ ruleStart B k
+    pub start-is : getD starts k 0 ≡ ruleStart B k
     start-is = a .starts k (omega arith)
 
     pub start-fits : getD starts k 0 + 2 ≤ length B
@@ -127,20 +167,12 @@ module _ (B : List ℕ) (s : SoundBook B) where
     pub start-inside : k < length starts
     start-inside = omega (arith, a .size, rules-few)
 
-    module _ (p : Parts) (e : p ≡ partsAt B (getD starts k 0)) where
-      parts-are : p ≡ partsAt B (ruleStart B k)
+    module _ (f : formOf B ≡ new) (p : Parts) (e : p ≡ partsAt B (getD starts k 0)) where
+      pub parts-are : p ≡ partsAt B (ruleStart B k)
       parts-are = e ∙ ap (partsAt B) start-is
 
       pub parts-in : RuleIn B p
-      parts-in = subst (RuleIn B) (sym parts-are) (rule-in B s k l)
+      parts-in = subst (RuleIn B) (sym parts-are) (rule-in B s f k l)
 
-      pub found-is : (M : Question) (n : ℕ) (f : Found) → f ≡ foundOf (next 32 (ruleOf B p) M n)
-          → f ≡ foundOf (next apart (ruleAt B (ruleStart B k)) M n)
-      found-is M n f x =
-          x
-          ∙ ap (λ (q : Parts). foundOf (next 32 (ruleOf B q) M n)) parts-are
-          ∙ ap (λ (r : Rule). foundOf (next 32 r M n)) (rule-asked B (ruleStart B k))
-
-      pub few-choices : (Q : List ℕ) → QuestionIn Q → (n : ℕ) (f : Found)
-          → f ≡ foundOf (next 32 (ruleOf B p) (questionOf stored Q) n) → f .found ≡ true → f .choice < mostChoices
-      few-choices Q q n f x t = found-within Q B p q parts-in n f x t .1
+      pub rule-is : ruleOf B p ≡ ruleAt B (ruleStart B k)
+      rule-is = ap (ruleOf B) parts-are ∙ rule-asked B f (ruleStart B k)

@@ -2,7 +2,7 @@
 use mathlib.Core.Path.{_≡_, refl, sym, _∙_, ap, subst}
 use mathlib.Core.Bool.{true, false}
 use mathlib.Core.List.{List, [], _∷_, List·Memᴰ·head, List·Memᴰ·tail}
-use Prim.Native.Nat.{ℕ, _+_, _<_}
+use Prim.Native.Nat.{ℕ, _+_, _≤_, _<_}
 use native.Mathlib.Omega.{arith}
 use lib.ListN.{length, drop}
 use Rattle.covering.specs.Lists.{_∈_}
@@ -16,9 +16,11 @@ use Rattle.explore.specs.declared.Explored.the-variants.{Passed, Refused
 use Rattle.exploration.specs.Run.{Limits, through, allRewritings}
 use Rattle.admit.specs.WorkingArray.{Working, FateIs, stateIn}
 use Rattle.explore.specs.Exploring.{ExploredIs}
+use Rattle.explore.specs.Skipping.{GoesOn}
 use Rattle.exploration.proofs.Admits.{through-none}
+use Rattle.exploration.proofs.Dropping.{passed-over}
 use Rattle.exploration.proofs.Turns.{turn-dropped, turn-refused, turn-appended, turn-stopped}
-use Rattle.explore.proofs.Coming.{coming, coming-all, Given}
+use Rattle.explore.proofs.Coming.{coming, coming-all, coming-later, coming-fewer, Given}
 
 -- The exploration's outcome is that of the rewritings yet to come, from the state that the array X holds.
 pub record Onward (lim : Limits) (rules : List Rule) (M : Question) (W : List ℕ) (e : Extent) (X : List ℕ) (f : Extent) (k n : ℕ) : Type 0
@@ -53,7 +55,7 @@ module _ (lim : Limits) (rules : List Rule) (M : Question) (W : List ℕ) (e : E
     )
 
     -- the next one
-    module _ {t : Taken} (g : Given M k n rules t) where
+    module _ {t : Taken} {R : List ℕ} (g : Given M k n rules t R) where
       abbrev P : Question
       P = g .rewriting
 
@@ -84,6 +86,30 @@ module _ (lim : Limits) (rules : List Rule) (M : Question) (W : List ℕ) (e : E
             among = later-in;
             outcome = outcome-is ∙ turn-dropped covers lim M P Ps (stateIn X f) (h .0);
           })
+
+      -- and choices after it are passed over
+      pub onward-passed : {Y : List ℕ} → Onward lim rules M W e Y f (t .rule) (t .choice + 1) → {m : ℕ}
+          → GoesOn (g .here) M (stateIn Y f .members) (t .choice) m
+          → Onward lim rules M W e Y f (t .rule) m
+      onward-passed {Y} x {m} y =
+          record {
+            working = x .working;
+            among = λ N i. x .among N (coming-later M (t .choice + 1) m (drop (t .rule) rules) up N i);
+            outcome =
+                x .outcome
+                ∙ ap (λ (l : List Rule). through covers lim M (coming M (t .choice + 1) l) (stateIn Y f)) (g .rules-are)
+                ∙ passed-over covers lim M (g .here) (g .others) (stateIn Y f) (t .choice + 1) m up
+                (λ i N k low high. y .between i N k (omega arith) high)
+                ∙ ap (λ (l : List Rule). through covers lim M (coming M m l) (stateIn Y f)) (sym (g .rules-are));
+          }
+        where
+          up : t .choice + 1 ≤ m
+          up = omega (arith, y .later)
+
+      pub fewer-passed : {m : ℕ} → t .choice < m
+          → length (coming M m (drop (t .rule) rules)) < length (coming M n (drop k rules))
+      fewer-passed {m} l =
+          omega (arith, fewer, coming-fewer M (t .choice + 1) m (drop (t .rule) rules) (omega arith))
 
       pub onward-refused : (number : ℕ) → FateIs lim X f (g .rewriting) X (Refused number)
           → ExploredIs lim rules M W e X (NotExplored number)

@@ -128,7 +128,7 @@ module _ (B : List ℕ) where
       first-question : questionOf stored R ≡ form (joined (bookOf B .question))
       first-question = ap (questionOf stored) is ∙ stored-question P fits
 
-      pub first-fits : firstAt + (1 + getD R 0 0 * 5) ≤ length W
+      pub first-fits : firstAt + (1 + getD R 0 0 * 7) ≤ length W
       first-fits = omega (arith, size, question-count stored R, ap length first-question, short)
 
       pub first-running : (X : List ℕ) (r : ℕ) → r ≡ firstAt + length (recordBytes stored (questionOf stored R))

@@ -20,11 +20,11 @@ use Rattle.exploration.specs.Run.{Limits, Why, refusalNumber, passed, failed, O
 use Rattle.exploration.specs.Run.{through, allRewritings}
 use Rattle.admit.specs.WorkingArray.{stateIn, Working}
 
--- "the oldest unexplored member", as a record of 61 bytes
+-- "the oldest unexplored member", as a record of 85 bytes
 abbrev pub OldestIs : List ℕ → Extent → List ℕ → Type 0
 OldestIs W e R = (M : Question) × (oldest (stateIn W e) ≡ some M) × (R ≡ heldIn stored recordRoom M)
 
--- a member as a record of 61 bytes, the rest 255: it keeps to the book's relations, places and constants, and has the
+-- a member as a record of 85 bytes, the rest 255: it keeps to the book's relations, places and constants, and has the
 -- answer places of the book's question
 pub record MemberIn (B R : List ℕ) : Type 0 where
   pub holds : R ≡ heldIn stored recordRoom (questionOf stored R)

@@ -1,9 +1,9 @@
 -- Taking the rewritings one at a time (01, "Exploring"): "go through rules in book order, choices in theirs".
+use mathlib.Core.Path.{_≡_}
 use mathlib.Core.Bool.{true, false}
 use mathlib.Core.List.{List, [], _∷_}
 use mathlib.Core.Option.{Option, none, some}
 use Prim.Native.Nat.{ℕ, suc}
-use lib.ListN.{replicate}
 use Rattle.covering.specs.Term.{Question}
 use Rattle.covering.specs.Record.{stored}
 use Rattle.covering.specs.Buffer.{heldIn, recordRoom}
@@ -28,8 +28,17 @@ unfoldable pub nextAmong : Question → ℕ → ℕ → List Rule → Option Num
 nextAmong M k n [] = none
 nextAmong M k n (r ∷ rules) = orLater k (next apart r M n) (nextAmong M (suc k) 0 rules)
 
--- how the code holds it
+-- what the answer says of it
 abbrev pub taken : Option NumberedRewriting → Taken
-taken none = record { found = false; rule = 0; choice = 0; rewriting = replicate recordRoom 255 }
-taken (some e) =
-    record { found = true; rule = e .rule; choice = e .choice; rewriting = heldIn stored recordRoom (e .rewriting) }
+taken none = record { found = false; rule = 0; choice = 0 }
+taken (some e) = record { found = true; rule = e .rule; choice = e .choice }
+
+-- what the room lent for the rewriting, which came as X, then holds: its record, or X still
+abbrev pub roomOf : Option NumberedRewriting → List ℕ → List ℕ
+roomOf none X = X
+roomOf (some e) X = heldIn stored recordRoom (e .rewriting)
+
+-- the answer t and the room Y tell it
+pub record TakenIs (o : Option NumberedRewriting) (X : List ℕ) (t : Taken) (Y : List ℕ) : Type 0 where
+  pub answer : t ≡ taken o
+  pub room : Y ≡ roomOf o X

@@ -1,25 +1,38 @@
 // The exploration: one book in, the whole union or a numbered refusal out. What the run is, and what it is worth, stands
 // in `exploration`; specs/ says how the functions hold its state.
 mod exploring;
+mod related;
+mod skipping;
 mod taking_up;
 mod whole_run;
-mod written;
 
 use admit::Extent;
-use covering::RECORD;
 pub use whole_run::answer_records;
 pub use whole_run::run;
 
-// "Output room is 2,952 for all": 8 and 64 times the record of eight atoms and an answer record.
-pub const OUTPUT: usize = 2952;
+// "Output room becomes 4,104 for all": 8 and 64 times the record of eight atoms and an answer record, six places each.
+pub const OUTPUT: usize = 4104;
 
-// The next rewriting: whether there is one, the numbers of its rule and of its choice, and its record at the front of
-// 61 bytes, the rest 255.
+// The next rewriting: whether there is one, and the numbers of its rule and of its choice. Its record goes to the room
+// that is lent for it.
 pub struct Taken {
     pub found: bool,
     pub rule: usize,
     pub choice: usize,
-    pub rewriting: [u8; RECORD],
+}
+
+// How long an exploration waits before it asks whether choices can be passed over: by that rule, so many drops more, and
+// so many the next time.
+pub struct Patience {
+    pub rule: usize,
+    pub drops: usize,
+    pub next: usize,
+}
+
+// Where the exploration goes on after a drop, and how patient it is then.
+pub struct Resumed {
+    pub from: usize,
+    pub patience: Patience,
 }
 
 // What becomes of the exploration of one member: it is through, and the array is filled so far; or the run is refused

@@ -5,25 +5,27 @@ ghost use lib.ListN.{drop};
 ghost use Rattle.covering.specs.Record.{stored, questionOf, SoundRecord};
 ghost use Rattle.covering.specs.Buffer.{heldIn, recordRoom};
 ghost use Rattle.reading.specs.Book.{bookOf};
-ghost use Rattle.reading.specs.Header.{rules as rulesOf};
+ghost use Rattle.reading.specs.Header.{rules as rulesOf, formOf, new};
 ghost use Rattle.reading.specs.Verdict.{SoundBook};
 ghost use Rattle.book.specs.Parts.{StartsAt};
 ghost use Rattle.lister.specs.Listing.{QuestionIn};
 ghost use Rattle.lister.specs.Counts.{mostChoices};
 ghost use Rattle.admit.specs.WorkingArray.{Working};
 ghost use Rattle.explore.specs.Exploring.{OldestIs};
-ghost use Rattle.explore.specs.Taking.{nextAmong, taken};
+ghost use Rattle.explore.specs.Related.{HeadSets};
+ghost use Rattle.explore.specs.Taking.{nextAmong, TakenIs};
 use super::Taken;
+use super::related::next_by;
 use admit::Extent;
 use admit::FIRST;
 use covering::RECORD;
 
-// The record at the front of 61 bytes, the rest 255.
+// The record at the front of 85 bytes, the rest 255.
 fn copy_record(member: &[u8]) -> [u8; RECORD]
     requires { ⌜ SoundRecord stored (now member) ⌝ }
     ensures { λ r. ⌜ r ≡ heldIn stored recordRoom (questionOf stored (now (member .entry))) ⌝ }
 {
-    let width = cover::width(member[0]);
+    let width = records::width(member[0]);
     let mut copy = [255u8; RECORD];
     let mut i = 0;
     while i < width {
@@ -41,46 +43,52 @@ pub fn oldest(work: &[u8], filled: Extent) -> [u8; RECORD]
     let mut at = FIRST;
     let mut passed = 0;
     while passed < filled.front {
-        at += cover::width(work[at]);
+        at += records::width(work[at]);
         passed += 1;
     }
     copy_record(&work[at..])
 }
 
-// The first rewriting of the member from choice `from` of the k-th rule on: "rules in book order, choices in theirs".
+// The first rewriting of the member from choice `from` of the k-th rule on: "rules in book order, choices in theirs". It
+// goes to the room lent, which stays as it came if there is none. `heads` has the sets of the rules' head relations.
 pub fn next_rewriting(
     book: &[u8],
     rules: usize,
     starts: &[usize],
+    heads: &[u64],
     member: &[u8],
     k: usize,
     from: usize,
+    out: &mut [u8; RECORD],
 ) -> Taken
     requires { ⌜ SoundBook (now book)
         × (rules ≡ rulesOf (now book))
         × StartsAt (now book) (now starts)
-        × QuestionIn (now member) ⌝ }
-    ensures { λ r. ⌜ (r
-        ≡ taken
+        × QuestionIn (now member)
+        × (formOf (now book) ≡ new)
+        × HeadSets (now book) (now heads)
+        × SoundRecord stored (now member) ⌝ }
+    ensures { λ r. ⌜ TakenIs
         (nextAmong
         (questionOf stored (now (member .entry)))
         k
         from
-        (drop k (bookOf (now (book .entry)) .rules))))
+        (drop k (bookOf (now (book .entry)) .rules)))
+        (now (out .entry))
+        r
+        (now (out .exit))
         × (r .choice < mostChoices) ⌝ }
 {
+    let all = records::relations(member);
     let mut rule = k;
     let mut choice = from;
     while rule < rules {
-        let parts = book::rule_at(book, starts[rule]);
-        let found = lister::next(member, book, parts, choice);
+        let found = next_by(book, starts[rule], heads[rule], member, all, choice, out);
         if found.found {
-            let rewriting = found.rewriting;
             return Taken {
                 found: true,
                 rule: rule,
                 choice: found.choice,
-                rewriting: rewriting,
             };
         }
         rule += 1;
@@ -90,6 +98,5 @@ pub fn next_rewriting(
         found: false,
         rule: 0,
         choice: 0,
-        rewriting: [255u8; RECORD],
     }
 }

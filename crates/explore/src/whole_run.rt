@@ -6,6 +6,7 @@ ghost use Rattle.covering.specs.Form.{form};
 ghost use Rattle.covering.specs.Record.{stored};
 ghost use Rattle.covering.specs.Buffer.{heldIn, recordRoom};
 ghost use Rattle.covering.specs.Asking.{joined};
+ghost use Rattle.reading.specs.Header.{formOf, new};
 ghost use Rattle.reading.specs.Book.{bookOf};
 ghost use Rattle.reading.specs.Verdict.{SoundBook};
 ghost use Rattle.exploration.specs.Union.{outputSize};
@@ -17,18 +18,19 @@ use super::Explored;
 use super::OUTPUT;
 use super::Ran;
 use super::exploring::explore;
+use super::related::head_sets;
 use super::taking_up::oldest;
-use super::written::copy_out;
-use super::written::fill_header;
-use super::written::uncount;
 use admit::Extent;
 use admit::FIRST;
 use admit::append;
 use covering::RECORD;
+use forms::BOOK;
+use forms::to_new;
+use writing::put_union;
 
 // The form of the book's question.
 fn first_member(book: &[u8]) -> [u8; RECORD]
-    requires { ⌜ SoundBook (now book) ⌝ }
+    requires { ⌜ SoundBook (now book) × (formOf (now book) ≡ new) ⌝ }
     ensures { λ r. ⌜ r ≡ heldIn stored recordRoom (form (joined (bookOf (now (book .entry)) .question))) ⌝ }
 {
     forming::in_form(book::question(book))
@@ -42,9 +44,10 @@ pub fn answer_records(book: &[u8]) -> u8
     book::answers(book::read(book)) as u8
 }
 
-// Takes up the oldest unexplored member and explores it, until none is unexplored or the run is refused.
+// Takes up the oldest unexplored member and explores it, until none is unexplored or the run is refused. Inside, atoms
+// have six places: the book is in the new form.
 fn explore_all(book: &[u8], work: &mut [u8]) -> Ran
-    requires { ⌜ SoundBook (now book) × (length (now work) ≡ outputSize) ⌝ }
+    requires { ⌜ SoundBook (now book) × (length (now work) ≡ outputSize) × (formOf (now book) ≡ new) ⌝ }
     ensures { λ r. ⌜ RanIs (outcomeOf (now (book .entry))) (now (work .exit)) r ⌝ }
 {
     let header = book::read(book);
@@ -52,6 +55,7 @@ fn explore_all(book: &[u8], work: &mut [u8]) -> Ran
     let allowed = header.allowed;
     let answers = answer_records(book);
     let starts = book::starts(book);
+    let heads = head_sets(book, rules, &starts);
     let first = first_member(book);
     let len = append(work, FIRST, &first);
     let mut filled = Extent {
@@ -67,7 +71,7 @@ fn explore_all(book: &[u8], work: &mut [u8]) -> Ran
         let member = oldest(work, filled);
         taken += 1;
         filled.front += 1;
-        let explored = explore(book, rules, &starts, &member, work, filled, answers);
+        let explored = explore(book, rules, &starts, &heads, &member, work, filled, answers);
         match explored {
             Explored::Passed(next) => filled = next,
             Explored::Refused(number) => return Ran::Refused(number, taken),
@@ -76,9 +80,14 @@ fn explore_all(book: &[u8], work: &mut [u8]) -> Ran
     Ran::Complete(filled, taken)
 }
 
-// Builds a sound book's union in a working array of its own. The output is written on completion alone.
-fn run_sound(book: &[u8], out: &mut [u8]) -> Answer
-    requires { ⌜ SoundBook (now book) × (outputSize ≤ length (now out)) ⌝ }
+// Builds a sound book's union in a working array of its own, from the book as it is in the new form, and writes it with
+// as many places an atom as the book has. The output is written on completion alone.
+fn run_sound(book: &[u8], wide: &[u8], out: &mut [u8]) -> Answer
+    requires { ⌜ SoundBook (now book)
+        × SoundBook (now wide)
+        × (formOf (now wide) ≡ new)
+        × (bookOf (now wide) ≡ bookOf (now book))
+        × (outputSize ≤ length (now out)) ⌝ }
     ensures { λ r. ⌜ Answers
         (now (book .entry))
         (now (out .entry))
@@ -87,15 +96,15 @@ fn run_sound(book: &[u8], out: &mut [u8]) -> Answer
         (now (out .exit)) ⌝ }
 {
     let mut work = [0u8; OUTPUT];
-    let ran = explore_all(book, &mut work);
+    let ran = explore_all(wide, &mut work);
     match ran {
         Ran::Complete(filled, explored) => {
-            fill_header(&mut work, filled.count, explored, filled.len);
-            uncount(&mut work, filled.count, answer_records(book));
-            copy_out(&work, filled.len, out);
+            let places = book::read(book).places;
+            let answers = answer_records(book);
+            let end = put_union(&work, filled.count, explored, answers, out, places);
             Answer {
                 number: 0,
-                place: filled.len,
+                place: end,
             }
         }
         Ran::Refused(number, place) => Answer {
@@ -121,12 +130,13 @@ pub fn run(book: &[u8], out: &mut [u8]) -> Answer
             place: 0,
         };
     }
-    let refusal = book::check(book);
-    if refusal.number != 0 {
+    let mut wide = [0u8; BOOK];
+    let copy = to_new(book, &mut wide);
+    if copy.number != 0 {
         return Answer {
-            number: refusal.number,
-            place: refusal.place,
+            number: copy.number,
+            place: copy.place,
         };
     }
-    run_sound(book, out)
+    run_sound(book, &wide[..copy.place], out)
 }

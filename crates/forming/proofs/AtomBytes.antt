@@ -103,9 +103,9 @@ module _ (B : List ℕ) where
       go k lt false e t below = inr (unused-at (suc w) i k t lt)
 
 -- a byte of a sound atom of the desk, after the first, is a variable's, a constant's or 255
-pub place-byte : (B : List ℕ) (i j : ℕ) → T (isAtom stored B i) → 0 < j → j < 5 → 64 ≤ getD B (i + j) 0
+pub place-byte : (B : List ℕ) (i j : ℕ) → T (isAtom stored B i) → 0 < j → j < 7 → 96 ≤ getD B (i + j) 0
     → 128 ≤ getD B (i + j) 0
-place-byte B i (suc k) t pos lt le = go (place-is B stored 4 (i + 1) k (atom-used stored B i t) (omega arith))
+place-byte B i (suc k) t pos lt le = go (place-is B stored 6 (i + 1) k (atom-used stored B i t) (omega arith))
   where
     e : i + suc k ≡ i + 1 + k
     e = further i k

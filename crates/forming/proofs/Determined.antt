@@ -15,9 +15,9 @@ pub no-atoms-determined : (κs : _) (a : _) (r s : _) (x y : _) → no-atoms-rea
 no-atoms-determined κs a r s x y p q = p ∙ sym q
 
 pub put-atom-determined : (κs : _) (a : _) (r s : _) (x y : _) → put-atom-reads.Learnt κs a r x
-    → put-atom-reads.Learnt κs a s y → r ≡ s
+    → put-atom-reads.Learnt κs a s y → x .0 .now ≡ y .0 .now
 put-atom-determined κs a r s x y p q = p ∙ sym q
 
 pub put-on-determined : (κs : _) (a : _) (r s : _) (x y : _) → put-on-reads.Learnt κs a r x
-    → put-on-reads.Learnt κs a s y → r ≡ s
+    → put-on-reads.Learnt κs a s y → x .0 .now ≡ y .0 .now
 put-on-determined κs a r s x y p q = p ∙ sym q

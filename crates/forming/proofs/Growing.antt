@@ -13,15 +13,22 @@ use Rattle.covering.specs.Lists.{_∈_}
 use Rattle.covering.specs.Term.{Atom, Question, Sub, on-atom, on-question, terms, eqAtom}
 use Rattle.covering.specs.Form.{dedup, firsts, numbering}
 use Rattle.covering.specs.Record.{Layout, stored, size, questionOf, AtomFits, Fits, SoundRecord}
-use Rattle.covering.specs.Buffer.{heldIn, RoomLeft}
+use Rattle.covering.specs.Buffer.{heldIn, RoomLeft, recordRoom}
 use Rattle.forming.specs.Building.{has, added, newNumber, subOf}
 use Rattle.covering.proofs.Lists.{map-append}
 use Rattle.covering.proofs.Tests.{either}
 use Rattle.covering.proofs.RoundTrip.{TellsApart, stored-apart}
-use Rattle.covering.proofs.Padded.{held-question, held-room, held-sound}
+use Rattle.covering.proofs.Padded.{held-count, held-length, held-question, held-room, held-sound}
 use Rattle.forming.proofs.Leftward.{added-old, added-new}
 use Rattle.covering.proofs.Fitting.{sound-fits, dedup-fits, renumber-fits}
 use Rattle.forming.proofs.Renaming.{on-table}
+
+-- a record under construction fills its bytes
+pub room-length : (B : List ℕ) → RoomLeft stored recordRoom B → length B ≡ 85
+room-length B r =
+    let count : getD B 0 0 ≡ length (questionOf stored B) =
+    ap (λ x. getD x 0 0) (r .holds) ∙ held-count stored recordRoom (questionOf stored B) in
+    ap length (r .holds) ∙ held-length stored recordRoom (questionOf stored B) (omega (arith, r .room, count))
 
 -- B holds just these atoms, and there is room for some more
 pub record Grows (L : Layout) (n : ℕ) (B : List ℕ) (A : Question) (more : ℕ) : Type 0 where
@@ -41,6 +48,9 @@ module _ (L : Layout) (ap-L : TellsApart L) (n : ℕ) (B : List ℕ) (A : Questi
   -- there is room for fewer atoms too
   fewer : (k : ℕ) → k ≤ length A + more → 1 + k * size L ≤ n
   fewer k h = omega (arith, g .room, mul-le-mul-right {m = k} {n = length A + more} (size L) h)
+
+  pub grows-length : length B ≡ n
+  grows-length = ap length (g .bytes) ∙ held-length L n A (fewer (length A) (omega arith))
 
   pub grows-room : 0 < more → RoomLeft L n B
   grows-room h =
@@ -121,7 +131,7 @@ module _ (L : Layout) (ap-L : TellsApart L) (some-place : 1 ≤ L .places) (n : 
 
 -- the table of a sound record's new numbers: an atom on it is that atom renumbered, and fits
 module _ (B : List ℕ) (s : SoundRecord stored B) (table : List ℕ)
-    (each : (n : ℕ) → n < 64 → getD table n 0 ≡ newNumber (firsts (terms (questionOf stored B))) n) (a : Atom)
+    (each : (n : ℕ) → n < 96 → getD table n 0 ≡ newNumber (firsts (terms (questionOf stored B))) n) (a : Atom)
     (m : a ∈ questionOf stored B) where
   pub table-numbers : on-atom (subOf table) a ≡ on-atom (numbering (questionOf stored B)) a
   table-numbers = on-table (questionOf stored B) table (sound-fits stored stored-apart B (omega arith) s) each a m

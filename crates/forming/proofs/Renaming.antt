@@ -93,9 +93,9 @@ number-kept S t n ne = go (either (has eqb S n))
     go (inr e) = number-none (S ++ t ∷ []) n (more false e) ∙ sym (number-none S n e)
 
 -- no variable is seen yet
-pub numbered-none : NumberTable [] (replicate 64 255) 0
+pub numbered-none : NumberTable [] (replicate 96 255) 0
 unfolding newNumber
-numbered-none = record { each = λ n h. getD-replicate 64 n 255 0 h; count = refl }
+numbered-none = record { each = λ n h. getD-replicate 96 n 255 0 h; count = refl }
 
 -- one more term
 module _ (S table : List ℕ) (given t : ℕ) (k : NumberTable S table given) where
@@ -103,14 +103,14 @@ module _ (S table : List ℕ) (given t : ℕ) (k : NumberTable S table given) wh
   unfolding seen
   seen-constant h = rw (term-con t h) k
 
-  pub seen-again : t < 64 → (getD table t 0 ≡ 255 → ⊥) → NumberTable (seen S (termOf t)) table given
+  pub seen-again : t < 96 → (getD table t 0 ≡ 255 → ⊥) → NumberTable (seen S (termOf t)) table given
   unfolding seen
   seen-again h ne = subst (λ l. NumberTable l table given) (sym same) k
     where
       same : seen S (termOf t) ≡ S
       same = ap (seen S) (term-var t (omega arith)) ∙ added-old eqb S t (is-there S t (λ e. ne (k .each t h ∙ e)))
 
-  pub seen-first : t < 64 → t < length table → given < 64 → getD table t 0 ≡ 255
+  pub seen-first : t < 96 → t < length table → given < 96 → getD table t 0 ≡ 255
       → NumberTable (seen S (termOf t)) (set table t given) (given + 1)
   unfolding seen
   seen-first h in-table few e =
@@ -122,7 +122,7 @@ module _ (S table : List ℕ) (given t : ℕ) (k : NumberTable S table given) wh
       none : has eqb S t ≡ false
       none = is-none S t (omega (arith, k .count)) (sym (k .each t h) ∙ e)
 
-      go : (n : ℕ) → n < 64 → (eqb t n ≡ true) ⊎ (eqb t n ≡ false)
+      go : (n : ℕ) → n < 96 → (eqb t n ≡ true) ⊎ (eqb t n ≡ false)
           → getD (set table t given) n 0 ≡ newNumber (S ++ t ∷ []) n
       go n lt (inl q) =
           rw (← eqb-true t n q)
@@ -132,7 +132,7 @@ module _ (S table : List ℕ) (given t : ℕ) (k : NumberTable S table given) wh
 
 -- the whole table puts its number for each variable
 pub on-table : (A : Question) (table : List ℕ) → Fits stored A
-    → ((n : ℕ) → n < 64 → getD table n 0 ≡ newNumber (firsts (terms A)) n)
+    → ((n : ℕ) → n < 96 → getD table n 0 ≡ newNumber (firsts (terms A)) n)
     → (a : Atom) → a ∈ A → on-atom (subOf table) a ≡ on-atom (numbering A) a
 unfolding subOf
 on-table A table f each a m = on-atom-same (subOf table) (numbering A) a (λ t k. go t k (f .each a m .terms t k))

@@ -39,7 +39,7 @@ newNumber S n = cond (has eqb S n) (index S n) 255
 
 -- a table of new numbers and how many are given, for these variables
 pub record NumberTable (S table : List ℕ) (given : ℕ) : Type 0 where
-  pub each : (n : ℕ) → n < 64 → getD table n 0 ≡ newNumber S n
+  pub each : (n : ℕ) → n < 96 → getD table n 0 ≡ newNumber S n
   pub count : given ≡ length S
 
 -- a table of bytes as a substitution

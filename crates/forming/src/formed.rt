@@ -1,21 +1,15 @@
 // The form of a member record: equal atoms are dropped but for the first, then variables are numbered 0, 1, .. by
-// first appearance. A record is built at the front of 61 bytes, the rest 255.
+// first appearance. A record is built in place, at the front of 85 bytes, the rest 255.
 use covering::RECORD;
 ghost use mathlib.Core.Path.{_≡_};
 ghost use mathlib.Core.List.{List, [], _∷_, _++_};
 ghost use Prim.Native.Nat.{ℕ, _+_, _≤_, _<_};
-ghost use lib.ListN.{getD};
+ghost use lib.ListN.{length, getD};
 ghost use Rattle.covering.specs.Term.{on-term, on-atom, eqAtom, terms};
 ghost use Rattle.covering.specs.Form.{dedup, firsts, renumber, form};
 ghost use Rattle.covering.specs.Record.{stored, termOf, byteOf, atomAt, questionOf, atomBytes, AtomFits, SoundRecord};
 ghost use Rattle.covering.specs.Buffer.{heldIn, AtomIn, AtomsIn, RoomLeft, recordRoom};
 ghost use Rattle.forming.specs.Building.{has, added, seen, allSeen, newNumber, subOf, NumberTable};
-
-// The new numbers given so far, 255 for none yet, and how many there are.
-struct Numbers {
-    table: [u8; 64],
-    count: u8,
-}
 
 // A record with no atom yet.
 pub fn no_atoms() -> [u8; RECORD]
@@ -26,13 +20,13 @@ pub fn no_atoms() -> [u8; RECORD]
     kept
 }
 
-// Whether the atom of first at i is the atom of second at k: the same five bytes.
+// Whether the atom of first at i is the atom of second at k: the same seven bytes.
 fn same_atom(first: &[u8], second: &[u8], i: usize, k: usize) -> bool
     requires { ⌜ AtomIn stored (now first) i × AtomIn stored (now second) k ⌝ }
     ensures { λ r. ⌜ r ≡ eqAtom (atomAt stored (now (first .entry)) i) (atomAt stored (now (second .entry)) k) ⌝ }
 {
     let mut j = 0;
-    while j < 5 {
+    while j < 7 {
         if first[i + j] != second[k + j] {
             return false;
         }
@@ -53,38 +47,44 @@ fn has_atom(kept: &[u8], from: &[u8], at: usize) -> bool
         if same_atom(kept, from, i, at) {
             return true;
         }
-        i += 5;
+        i += 7;
         left -= 1;
     }
     false
 }
 
-// The record with the atom of from at `at` after its own atoms. From may be any bytes that have an atom there.
-pub fn put_atom(kept: [u8; RECORD], from: &[u8], at: usize) -> [u8; RECORD]
-    requires { ⌜ RoomLeft stored recordRoom kept × AtomIn stored (now from) at ⌝ }
-    ensures { λ r. ⌜ r ≡ heldIn stored recordRoom (questionOf stored kept ++ atomAt stored (now (from .entry)) at ∷ []) ⌝ }
+// Puts the atom of from at `at` after the record's own atoms. From may be any bytes that have an atom there.
+pub fn put_atom(kept: &mut [u8], from: &[u8], at: usize)
+    requires { ⌜ RoomLeft stored recordRoom (now kept) × AtomIn stored (now from) at ⌝ }
+    ensures { λ _. ⌜ now (kept .exit)
+        ≡ heldIn
+        stored
+        recordRoom
+        (questionOf stored (now (kept .entry)) ++ atomAt stored (now (from .entry)) at ∷ []) ⌝ }
 {
     let n = kept[0];
-    let start = cover::width(n);
-    let mut more = kept;
-    more[0] = n + 1;
+    let start = records::width(n);
+    kept[0] = n + 1;
     let mut byte = 0;
-    while byte < 5 {
-        more[start + byte] = from[at + byte];
+    while byte < 7 {
+        kept[start + byte] = from[at + byte];
         byte += 1;
     }
-    more
 }
 
-// The same where the atom is not among the record's own; else the record as it is.
-fn put_new(kept: [u8; RECORD], from: &[u8], at: usize) -> [u8; RECORD]
-    requires { ⌜ RoomLeft stored recordRoom kept × AtomIn stored (now from) at ⌝ }
-    ensures { λ r. ⌜ r ≡ heldIn stored recordRoom (added eqAtom (questionOf stored kept) (atomAt stored (now (from .entry)) at)) ⌝ }
+// The same where the atom is not among the record's own; else the record stays as it is.
+fn put_new(kept: &mut [u8], from: &[u8], at: usize)
+    requires { ⌜ RoomLeft stored recordRoom (now kept) × AtomIn stored (now from) at ⌝ }
+    ensures { λ _. ⌜ now (kept .exit)
+        ≡ heldIn
+        stored
+        recordRoom
+        (added eqAtom (questionOf stored (now (kept .entry))) (atomAt stored (now (from .entry)) at)) ⌝ }
 {
-    if has_atom(&kept, from, at) {
-        return kept;
+    if has_atom(kept, from, at) {
+        return;
     }
-    put_atom(kept, from, at)
+    put_atom(kept, from, at);
 }
 
 // The record with equal atoms dropped but for the first.
@@ -96,131 +96,115 @@ fn drop_equal(member: &[u8]) -> [u8; RECORD]
     let n = member[0] as usize;
     let mut left = n;
     while 0 < left {
-        let at = 1 + (n - left) * 5;
-        let more = put_new(kept, member, at);
-        kept = more;
+        let at = 1 + (n - left) * 7;
+        put_new(&mut kept, member, at);
         left -= 1;
     }
     kept
 }
 
-// Gives the term t the next number, if it is a variable that has none.
-fn number_term(table: [u8; 64], count: u8, t: u8) -> Numbers
-    requires { ⌜ (64 ≤ t → 128 ≤ t) × (count < 64) ⌝ }
-    ensures { λ r. ⌜ (r .count ≤ count + 1)
-        × ((S : List ℕ) → NumberTable S table count → NumberTable (seen S (termOf t)) (r .table) (r .count)) ⌝ }
+// Gives the term t the next number, if it is a variable that has none. The table has the new numbers given so far, 255
+// for none yet; the answer is how many there are now.
+fn number_term(table: &mut [u8], count: u8, t: u8) -> u8
+    requires { ⌜ (length (now table) ≡ 96) × (96 ≤ t → 128 ≤ t) × (count < 96) ⌝ }
+    ensures { λ r. ⌜ (r ≤ count + 1)
+        × ((S : List ℕ)
+        → NumberTable S (now (table .entry)) count
+        → NumberTable (seen S (termOf t)) (now (table .exit)) r) ⌝ }
 {
-    if 64 <= t {
-        return Numbers {
-            table: table,
-            count: count,
-        };
+    if 96 <= t {
+        return count;
     }
     let at = t as usize;
     if table[at] != 255 {
-        return Numbers {
-            table: table,
-            count: count,
-        };
+        return count;
     }
-    let mut more = table;
-    more[at] = count;
-    Numbers {
-        table: more,
-        count: count + 1,
-    }
+    table[at] = count;
+    count + 1
 }
 
 // Numbers the variables of the atom of from at `at`, in order.
-fn number_atom(table: [u8; 64], count: u8, from: &[u8], at: usize) -> Numbers
-    requires { ⌜ AtomIn stored (now from) at × (count + 4 ≤ 64) ⌝ }
-    ensures { λ r. ⌜ (r .count ≤ count + 4)
+fn number_atom(table: &mut [u8], count: u8, from: &[u8], at: usize) -> u8
+    requires { ⌜ (length (now table) ≡ 96) × AtomIn stored (now from) at × (count + 6 ≤ 96) ⌝ }
+    ensures { λ r. ⌜ (r ≤ count + 6)
         × ((S : List ℕ)
-        → NumberTable S table count
-        → NumberTable (allSeen S (atomAt stored (now (from .entry)) at .args)) (r .table) (r .count)) ⌝ }
+        → NumberTable S (now (table .entry)) count
+        → NumberTable (allSeen S (atomAt stored (now (from .entry)) at .args)) (now (table .exit)) r) ⌝ }
 {
-    let mut known = table;
     let mut given = count;
     let mut j = 0;
-    while j < 4 {
+    while j < 6 {
         let t = from[at + 1 + j];
         if t == 255 {
-            return Numbers {
-                table: known,
-                count: given,
-            };
+            return given;
         }
-        let step = number_term(known, given, t);
-        known = step.table;
-        given = step.count;
+        given = number_term(table, given, t);
         j += 1;
     }
-    Numbers {
-        table: known,
-        count: given,
-    }
+    given
 }
 
 // The new number of each variable of the record, by first appearance, and 255 for any other.
-fn numbers_of(member: &[u8]) -> [u8; 64]
+fn numbers_of(member: &[u8]) -> [u8; 96]
     requires { ⌜ SoundRecord stored (now member) ⌝ }
     ensures { λ r. ⌜ ((n : ℕ)
-        → n < 64
+        → n < 96
         → getD r n 0 ≡ newNumber (firsts (terms (questionOf stored (now (member .entry))))) n) ⌝ }
 {
-    let mut table = [255u8; 64];
+    let mut table = [255u8; 96];
     let mut count = 0;
     let mut at = 1;
     let mut left = member[0] as usize;
     while 0 < left {
-        let step = number_atom(table, count, member, at);
-        table = step.table;
-        count = step.count;
-        at += 5;
+        count = number_atom(&mut table, count, member, at);
+        at += 7;
         left -= 1;
     }
     table
 }
 
 // The byte t with a variable replaced by what the table has for it: a constant stays, and so does 255.
-fn replaced(table: [u8; 64], t: u8) -> u8
-    requires { ⌜ (64 ≤ t → 128 ≤ t) ⌝ }
-    ensures { λ r. ⌜ r ≡ byteOf (on-term (subOf table) (termOf t)) ⌝ }
+fn replaced(table: &[u8], t: u8) -> u8
+    requires { ⌜ (length (now table) ≡ 96) × (96 ≤ t → 128 ≤ t) ⌝ }
+    ensures { λ r. ⌜ r ≡ byteOf (on-term (subOf (now (table .entry))) (termOf t)) ⌝ }
 {
-    if 64 <= t {
+    if 96 <= t {
         return t;
     }
     table[t as usize]
 }
 
 // The bytes of the atom of from at `at`, each variable replaced by the term whose byte the table has for it.
-fn atom_on(table: [u8; 64], from: &[u8], at: usize) -> [u8; 5]
-    requires { ⌜ AtomIn stored (now from) at ⌝ }
-    ensures { λ r. ⌜ r ≡ atomBytes stored (on-atom (subOf table) (atomAt stored (now (from .entry)) at)) ⌝ }
+fn atom_on(table: &[u8], from: &[u8], at: usize) -> [u8; 7]
+    requires { ⌜ (length (now table) ≡ 96) × AtomIn stored (now from) at ⌝ }
+    ensures { λ r. ⌜ r
+        ≡ atomBytes stored (on-atom (subOf (now (table .entry))) (atomAt stored (now (from .entry)) at)) ⌝ }
 {
-    let mut atom = [255u8; 5];
+    let mut atom = [255u8; 7];
     atom[0] = from[at];
     let mut j = 1;
-    while j < 5 {
+    while j < 7 {
         atom[j] = replaced(table, from[at + j]);
         j += 1;
     }
     atom
 }
 
-// The record with that atom, its variables so replaced, after its own.
-pub fn put_on(kept: [u8; RECORD], table: [u8; 64], from: &[u8], at: usize) -> [u8; RECORD]
-    requires { ⌜ RoomLeft stored recordRoom kept
+// Puts that atom, its variables so replaced, after the record's own.
+pub fn put_on(kept: &mut [u8], table: &[u8], from: &[u8], at: usize)
+    requires { ⌜ RoomLeft stored recordRoom (now kept)
+        × (length (now table) ≡ 96)
         × AtomIn stored (now from) at
-        × AtomFits stored (on-atom (subOf table) (atomAt stored (now from) at)) ⌝ }
-    ensures { λ r. ⌜ r
+        × AtomFits stored (on-atom (subOf (now table)) (atomAt stored (now from) at)) ⌝ }
+    ensures { λ _. ⌜ now (kept .exit)
         ≡ heldIn
         stored
         recordRoom
-        (questionOf stored kept ++ on-atom (subOf table) (atomAt stored (now (from .entry)) at) ∷ []) ⌝ }
+        (questionOf stored (now (kept .entry))
+        ++ on-atom (subOf (now (table .entry))) (atomAt stored (now (from .entry)) at) ∷ []) ⌝ }
 {
     let atom = atom_on(table, from, at);
-    put_atom(kept, &atom, 0)
+    put_atom(kept, &atom, 0);
 }
 
 // The record with its variables numbered by first appearance.
@@ -233,9 +217,8 @@ fn renumbered(member: &[u8]) -> [u8; RECORD]
     let mut at = 1;
     let mut left = member[0] as usize;
     while 0 < left {
-        let more = put_on(done, table, member, at);
-        done = more;
-        at += 5;
+        put_on(&mut done, &table, member, at);
+        at += 7;
         left -= 1;
     }
     done

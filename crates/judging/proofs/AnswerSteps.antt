@@ -12,18 +12,19 @@ use borrow.Author.Tests.{eq-eqb, ne-eqb, lt-ltb, le-ltb}
 use lib.Dec.{eqb}
 use Rattle.covering.specs.Lists.{any}
 use Rattle.covering.specs.Term.{Term, var, Question, terms, eqTerm}
-use Rattle.covering.specs.Asking.{answerRelation}
-use Rattle.covering.specs.Record.{stored, termOf, argsAt, atomsAt}
-use Rattle.covering.proofs.Tests.{either, one-more}
+use Rattle.covering.specs.Asking.{answerRelation, answerMost}
+use Rattle.covering.specs.Record.{holding, size, termOf, argsAt, atomsAt}
+use Rattle.covering.proofs.Tests.{either, one-more, true→T}
 use Rattle.covering.proofs.Lists.{any-append}
 use Rattle.covering.proofs.Bytes.{term-var, term-same, args-more, args-end}
 use Rattle.covering.proofs.Places.{args-none, atoms-none, terms-first}
 use Rattle.reading.specs.Word.{byte}
-use Rattle.reading.specs.Header.{atoms, questionAt, atomSize, atomPlaces, variables, announced, answerRecords}
+use Rattle.reading.specs.Header.{atoms, questionAt, atomPlaces, variables, announced, answerRecords}
 use Rattle.reading.specs.Header.{questionAtomsAt}
 use Rattle.reading.specs.Book.{questionAtoms}
 use Rattle.reading.specs.Refusals.{usedPlaces, answerPlaces}
 use Rattle.reading.specs.Verdict.{wrongPlace, wrongAnswer, standsIn, looseFrom, looseVariable}
+use Rattle.reading.proofs.FoundQuestion.{atoms-after}
 use Rattle.judging.specs.Judged.{wrongRecord}
 
 -- whether the variable b is one of these terms
@@ -51,7 +52,7 @@ module _ (B : List ℕ) where
   answer-wrong i f = rw (ne-eqb (byte B i) answerRelation f)
 
   pub answer-right : (i : ℕ) → byte B i ≡ answerRelation
-      → wrongAnswer B i ≡ wrongPlace B (answerPlaces B i) (i + 1) 0 atomPlaces
+      → wrongAnswer B i ≡ wrongPlace B (answerPlaces B i) (i + 1) 0 (atomPlaces B)
   unfolding wrongAnswer
   answer-right i e = rw (eq-eqb (byte B i) answerRelation e)
 
@@ -78,35 +79,34 @@ module _ (B : List ℕ) where
 
   -- its places, of which u after the first are used
   pub record-places : announced B ≡ true → (i u : ℕ) → i ≡ questionAt B → byte B i ≡ answerRelation
-      → u ≡ usedPlaces B (i + 2) (atomPlaces - 1)
-      → wrongRecord B ≡ wrongPlace B (1 + u) (i + 1) 0 atomPlaces
+      → u ≡ usedPlaces B (i + 2) (answerMost - 1)
+      → wrongRecord B ≡ wrongPlace B (1 + u) (i + 1) 0 (atomPlaces B)
   record-places t i u at e d =
       record-some t
       ∙ ap (wrongAnswer B) (sym at)
       ∙ answer-right i e
-      ∙ ap (λ (k : ℕ). wrongPlace B k (i + 1) 0 atomPlaces) (omega (arith, d))
+      ∙ ap (λ (k : ℕ). wrongPlace B k (i + 1) 0 (atomPlaces B)) (omega (arith, d))
 
   pub variable-none : announced B ≡ false → looseVariable B ≡ none
   unfolding looseVariable
   variable-none e = rw e
 
   variable-some : announced B ≡ true
-      → looseVariable B ≡ looseFrom B (questionAtoms B) (questionAt B + 1) atomPlaces
+      → looseVariable B ≡ looseFrom B (questionAtoms B) (questionAt B + 1) (atomPlaces B)
   unfolding looseVariable
   variable-some e = rw e
 
-  -- the atoms of a question at q, which start after its answer record
-  pub variables-from : announced B ≡ true → (q n : ℕ) → q ≡ questionAt B → n ≡ atoms B
-      → looseVariable B ≡ looseFrom B (atomsAt stored B (q + atomSize) n) (q + 1) atomPlaces
-  variables-from t q n e d =
+  -- the atoms of a question at q, which start after its answer record, of w places each
+  pub variables-from : announced B ≡ true → (q n w : ℕ) → q ≡ questionAt B → n ≡ atoms B → w ≡ atomPlaces B
+      → looseVariable B ≡ looseFrom B (atomsAt (holding w) B (q + 1 + w) n) (q + 1) w
+  variables-from t q n w e d p =
       variable-some t
-      ∙ ap₂ (λ (A : Question) (i : ℕ). looseFrom B A i atomPlaces) (ap₂ (atomsAt stored B) after (sym d)) (omega arith)
+      ∙ ap₂ (λ (A : Question) (i : ℕ). looseFrom B A i (atomPlaces B))
+      (ap₂ (atomsAt (holding (atomPlaces B)) B) after (sym d)) (omega arith)
+      ∙ ap (λ (x : ℕ). looseFrom B (atomsAt (holding x) B (q + 1 + w) n) (q + 1) x) (sym p)
     where
-      one : answerRecords B ≡ 1
-      one = rw t
-
-      after : questionAtomsAt B ≡ q + atomSize
-      after = omega (arith, one)
+      after : questionAtomsAt B ≡ q + 1 + w
+      after = omega (arith, atoms-after B (true→T _ t))
 
   -- its variables
   module _ (A : Question) (i n w : ℕ) where
@@ -114,11 +114,11 @@ module _ (B : List ℕ) where
     unfolding looseFrom
     loose-end h = rw (sub-eq-zero-of-le h)
 
-    pub loose-wrong : w < n → standsIn A (byte B i) ≡ false → looseFrom B A i (n - w) ≡ some i
+    pub loose-wrong : w < n → standsIn (variables B) A (byte B i) ≡ false → looseFrom B A i (n - w) ≡ some i
     unfolding looseFrom
     loose-wrong h e = rw (one-more n w h, looseFrom, e)
 
-    pub loose-right : w < n → standsIn A (byte B i) ≡ true
+    pub loose-right : w < n → standsIn (variables B) A (byte B i) ≡ true
         → looseFrom B A i (n - w) ≡ looseFrom B A (i + 1) (n - (w + 1))
     unfolding looseFrom
     loose-right h e = rw (one-more n w h, looseFrom, e)
@@ -133,7 +133,7 @@ module _ (B : List ℕ) where
       has-stop e = ap (has b) (args-end B i w n h e)
 
       -- the place is the variable's, or the places after it have it
-      has-more : b < variables → (byte B (i + w) ≡ 255 → ⊥)
+      has-more : b < 128 → (byte B (i + w) ≡ 255 → ⊥)
           → has b (argsAt B (i + w) (n - w)) ≡ eqb b (byte B (i + w)) || has b (argsAt B (i + (w + 1)) (n - (w + 1)))
       has-more l f =
           ap (has b) (args-more B i w n h f)
@@ -141,41 +141,47 @@ module _ (B : List ℕ) where
           (ap (λ (t : Term). eqTerm t (termOf (byte B (i + w)))) (sym (term-var b (omega arith)))
           ∙ term-same b (byte B (i + w)))
 
-      pub has-found : b < variables → byte B (i + w) ≡ b → has b (argsAt B (i + w) (n - w)) ≡ true
+      pub has-found : b < 128 → byte B (i + w) ≡ b → has b (argsAt B (i + w) (n - w)) ≡ true
       has-found l e = has-more l (λ d. omega arith) ∙ rw (eq-eqb b (byte B (i + w)) (sym e))
 
-      pub has-next : b < variables → (byte B (i + w) ≡ 255 → ⊥) → (byte B (i + w) ≡ b → ⊥)
+      pub has-next : b < 128 → (byte B (i + w) ≡ 255 → ⊥) → (byte B (i + w) ≡ b → ⊥)
           → has b (argsAt B (i + w) (n - w)) ≡ has b (argsAt B (i + (w + 1)) (n - (w + 1)))
       has-next l f g = has-more l f ∙ rw (ne-eqb b (byte B (i + w)) (λ e. g (sym e)))
 
-  -- among the atoms
-  module _ (b i n k : ℕ) where
-    pub stands-end : n ≤ k → has b (terms (atomsAt stored B i (n - k))) ≡ false
-    stands-end h = rw (atoms-none stored B i (n - k) (sub-eq-zero-of-le h))
+  -- among the atoms, of p places
+  module _ (b p i n k : ℕ) where
+    pub stands-end : n ≤ k → has b (terms (atomsAt (holding p) B i (n - k))) ≡ false
+    stands-end h = rw (atoms-none (holding p) B i (n - k) (sub-eq-zero-of-le h))
 
     stands-more : k < n
-        → has b (terms (atomsAt stored B i (n - k)))
-        ≡ has b (argsAt B (i + 1) 4) || has b (terms (atomsAt stored B (i + atomSize) (n - (k + 1))))
+        → has b (terms (atomsAt (holding p) B i (n - k)))
+        ≡ has b (argsAt B (i + 1) p) || has b (terms (atomsAt (holding p) B (i + 1 + p) (n - (k + 1))))
     stands-more h =
-        ap (has b) (terms-first stored B i (n - k) (omega arith))
-        ∙ any-append (eqTerm (var b)) (argsAt B (i + 1) 4) (terms (atomsAt stored B (i + atomSize) (n - k - 1)))
-        ∙ ap (λ (m : ℕ). has b (argsAt B (i + 1) 4) || has b (terms (atomsAt stored B (i + atomSize) m))) fewer
+        ap (has b) (terms-first (holding p) B i (n - k) (omega arith))
+        ∙ any-append (eqTerm (var b)) (argsAt B (i + 1) p)
+        (terms (atomsAt (holding p) B (i + size (holding p)) (n - k - 1)))
+        ∙ ap₂ (λ (a m : ℕ). has b (argsAt B (i + 1) p) || has b (terms (atomsAt (holding p) B a m))) after fewer
       where
+        after : i + size (holding p) ≡ i + 1 + p
+        after = omega arith
+
         fewer : n - k - 1 ≡ n - (k + 1)
         fewer = omega arith
 
     module _ (h : k < n) where
-      pub stands-found : has b (argsAt B (i + 1) 4) ≡ true → has b (terms (atomsAt stored B i (n - k))) ≡ true
+      pub stands-found : has b (argsAt B (i + 1) p) ≡ true
+          → has b (terms (atomsAt (holding p) B i (n - k))) ≡ true
       stands-found e = stands-more h ∙ rw e
 
-      pub stands-next : has b (argsAt B (i + 1) 4) ≡ false
-          → has b (terms (atomsAt stored B i (n - k))) ≡ has b (terms (atomsAt stored B (i + atomSize) (n - (k + 1))))
+      pub stands-next : has b (argsAt B (i + 1) p) ≡ false
+          → has b (terms (atomsAt (holding p) B i (n - k)))
+          ≡ has b (terms (atomsAt (holding p) B (i + 1 + p) (n - (k + 1))))
       stands-next e = stands-more h ∙ rw e
 
--- a byte that is no variable stands wherever it likes
-module _ (A : Question) (b : ℕ) where
-  pub no-variable : variables ≤ b → standsIn A b ≡ true
-  no-variable h = rw (le-ltb b variables h)
+-- a byte that is none of m variables stands wherever it likes
+module _ (m : ℕ) (A : Question) (b : ℕ) where
+  pub no-variable : m ≤ b → standsIn m A b ≡ true
+  no-variable h = rw (le-ltb b m h)
 
-  pub is-variable : b < variables → standsIn A b ≡ has b (terms A)
-  is-variable h = rw (lt-ltb b variables h)
+  pub is-variable : b < m → standsIn m A b ≡ has b (terms A)
+  is-variable h = rw (lt-ltb b m h)

@@ -3,7 +3,7 @@ use mathlib.Core.Path.{_≡_, refl, sym, _∙_, ap}
 use mathlib.Core.Bool.{Bool, true, false, cond}
 use mathlib.Core.List.{List}
 use mathlib.Core.Option.{Option, none, some}
-use Prim.Native.Nat.{ℕ, _+_, _-_, _≤_, _<_}
+use Prim.Native.Nat.{ℕ, _+_, _*_, _-_, _≤_, _<_}
 use native.Mathlib.Nat.{sub-eq-zero-of-le}
 use native.Mathlib.Omega.{arith}
 use borrow.Author.Tests.{le-leb, lt-leb, lt-ltb, le-ltb}
@@ -14,7 +14,7 @@ use Rattle.covering.proofs.Tests.{no→false, true→T, none≢some, one-more}
 use Rattle.reading.specs.declared.Refusal.{Refusal}
 use Rattle.reading.specs.Word.{byte}
 use Rattle.reading.specs.Header.{headerSize, relations, constants, rules, atoms, questionAt, headerOf, inside}
-use Rattle.reading.specs.Header.{placesRange, atomSize, atomPlaces, questionAtomsAt}
+use Rattle.reading.specs.Header.{placesRange, formOf, atomSize, atomPlaces, variables, questionAtomsAt}
 use Rattle.reading.specs.Book.{bodyCount, headCount, bodyAt, ruleEnd, rulesStart, placesOf}
 use Rattle.reading.specs.Refusals.{placeAllowed}
 use Rattle.reading.specs.Verdict.{wrongPlaces, ruleRight, wrongRule, wrongPlace, wrongInAtom, wrongInAtoms}
@@ -22,6 +22,10 @@ use Rattle.reading.specs.Verdict.{wrongInRules, wrongInQuestion, wrongByte, loo
 use Rattle.reading.specs.Verdict.{offsetsRight, contents, verdict}
 use Rattle.judging.specs.Judged.{wrongRecord}
 use Rattle.reading.proofs.Conditions.{rule-right}
+
+-- the bytes of n - k things of z bytes each: those of the next one, and of the rest
+pub bytes-left : (z n k : ℕ) → k < n → z * (n - k) ≡ z + z * (n - (k + 1))
+bytes-left z n k l = ap (λ (m : ℕ). z * m) (one-more n k l) ∙ omega arith
 
 pub same-number : {r t : Refusal} → r ≡ t → r .number ≡ t .number
 same-number e = ap (λ (x : Refusal). x .number) e
@@ -52,11 +56,12 @@ module _ (B : List ℕ) where
   unfolding wrongPlaces
   places-end i n k h = rw (sub-eq-zero-of-le h)
 
-  pub places-wrong : (i n k : ℕ) → k < n → inside placesRange (byte B i) ≡ false → wrongPlaces B i (n - k) ≡ some i
+  pub places-wrong : (i n k : ℕ) → k < n → inside (placesRange (formOf B)) (byte B i) ≡ false
+      → wrongPlaces B i (n - k) ≡ some i
   unfolding wrongPlaces
   places-wrong i n k h e = rw (one-more n k h, wrongPlaces, e)
 
-  pub places-right : (i n k : ℕ) → k < n → inside placesRange (byte B i) ≡ true
+  pub places-right : (i n k : ℕ) → k < n → inside (placesRange (formOf B)) (byte B i) ≡ true
       → wrongPlaces B i (n - k) ≡ wrongPlaces B (i + 1) (n - (k + 1))
   unfolding wrongPlaces
   places-right i n k h e = rw (one-more n k h, wrongPlaces, e)
@@ -113,12 +118,12 @@ module _ (B : List ℕ) where
   unfolding wrongPlace
   place-end u i w n h = rw (sub-eq-zero-of-le h)
 
-  pub place-wrong : (u i w n : ℕ) → w < n → placeAllowed (constants B) (ltb w u) (byte B (i + w)) ≡ false
+  pub place-wrong : (u i w n : ℕ) → w < n → placeAllowed (variables B) (constants B) (ltb w u) (byte B (i + w)) ≡ false
       → wrongPlace B u i w (n - w) ≡ some (i + w)
   unfolding wrongPlace
   place-wrong u i w n h e = rw (one-more n w h, wrongPlace, e)
 
-  pub place-right : (u i w n : ℕ) → w < n → placeAllowed (constants B) (ltb w u) (byte B (i + w)) ≡ true
+  pub place-right : (u i w n : ℕ) → w < n → placeAllowed (variables B) (constants B) (ltb w u) (byte B (i + w)) ≡ true
       → wrongPlace B u i w (n - w) ≡ wrongPlace B u i (w + 1) (n - (w + 1))
   unfolding wrongPlace
   place-right u i w n h e = rw (one-more n w h, wrongPlace, e)
@@ -128,7 +133,7 @@ module _ (B : List ℕ) where
   relation-wrong i h = rw (le-ltb (byte B i) (relations B) h)
 
   pub relation-right : (i : ℕ) → byte B i < relations B
-      → wrongInAtom B i ≡ wrongPlace B (placesOf B (byte B i)) (i + 1) 0 atomPlaces
+      → wrongInAtom B i ≡ wrongPlace B (placesOf B (byte B i)) (i + 1) 0 (atomPlaces B)
   unfolding wrongInAtom
   relation-right i h = rw (lt-ltb (byte B i) (relations B) h)
 
@@ -137,7 +142,7 @@ module _ (B : List ℕ) where
   atoms-end i n k h = rw (sub-eq-zero-of-le h)
 
   pub atoms-more : (i n k : ℕ) → k < n
-      → wrongInAtoms B i (n - k) ≡ orElse (wrongInAtom B i) (wrongInAtoms B (i + atomSize) (n - (k + 1)))
+      → wrongInAtoms B i (n - k) ≡ orElse (wrongInAtom B i) (wrongInAtoms B (i + atomSize B) (n - (k + 1)))
   unfolding wrongInAtoms
   atoms-more i n k h = rw (one-more n k h)
 
@@ -153,7 +158,7 @@ module _ (B : List ℕ) where
   bytes-more s n k h = rw (one-more n k h)
 
   abbrev pub five : Option ℕ
-  five = wrongPlaces B headerSize (relations B)
+  five = wrongPlaces B (headerSize B) (relations B)
 
   abbrev pub six : Option ℕ
   six = wrongRule B (questionAt B) (rulesStart B) (rules B)
@@ -209,21 +214,21 @@ module _ (B : List ℕ) where
       contents-eleven h =
           contents-bytes ∙ refuse-next 7 (wrongByte B) (told 11 (looseVariable B)) (omega arith) h
 
-  pub verdict-two : length B < headerSize → verdict B ≡ record { number = 2; place = 0 }
+  pub verdict-two : length B < headerSize B → verdict B ≡ record { number = 2; place = 0 }
   unfolding verdict
-  verdict-two h = rw (lt-leb headerSize (length B) h)
+  verdict-two h = rw (lt-leb (headerSize B) (length B) h)
 
-  pub verdict-three : headerSize ≤ length B → inTable (headerOf B) ≡ false
+  pub verdict-three : headerSize B ≤ length B → inTable (headerOf B) ≡ false
       → verdict B ≡ record { number = 3; place = 0 }
   unfolding verdict
-  verdict-three h t = rw (le-leb headerSize (length B) h, t)
+  verdict-three h t = rw (le-leb (headerSize B) (length B) h, t)
 
-  pub verdict-four : headerSize ≤ length B → inTable (headerOf B) ≡ true
+  pub verdict-four : headerSize B ≤ length B → inTable (headerOf B) ≡ true
       → offsetsRight (headerOf B) (length B) ≡ false → verdict B ≡ record { number = 4; place = 0 }
   unfolding verdict
-  verdict-four h t o = rw (le-leb headerSize (length B) h, t, o)
+  verdict-four h t o = rw (le-leb (headerSize B) (length B) h, t, o)
 
-  pub verdict-contents : headerSize ≤ length B → inTable (headerOf B) ≡ true
+  pub verdict-contents : headerSize B ≤ length B → inTable (headerOf B) ≡ true
       → offsetsRight (headerOf B) (length B) ≡ true → verdict B ≡ contents B
   unfolding verdict
-  verdict-contents h t o = rw (le-leb headerSize (length B) h, t, o)
+  verdict-contents h t o = rw (le-leb (headerSize B) (length B) h, t, o)

@@ -4,13 +4,11 @@ ghost use Prim.Native.Nat.{_+_, _*_, _<_, _≤_};
 ghost use lib.ListN.{length};
 ghost use Rattle.covering.specs.Lists.{any};
 ghost use Rattle.covering.specs.Term.{var, eqTerm};
-ghost use Rattle.covering.specs.Record.{stored, argsAt, atomsAt};
+ghost use Rattle.covering.specs.Record.{holding, argsAt, atomsAt};
 ghost use Rattle.reading.specs.Refusals.{usedPlaces};
 ghost use Rattle.reading.specs.Verdict.{standsIn};
-use super::words::ATOM;
-use super::words::PLACES;
 use super::words::UNUSED;
-use super::words::VARIABLES;
+use super::words::variables;
 use super::words::wide;
 
 // How many of the n places from i on are used: those before the first 255.
@@ -28,13 +26,13 @@ pub fn used_places(book: &[u8], i: usize, n: usize) -> usize
     w
 }
 
-// Whether the variable b stands in a used place among the four from i on.
-fn stands_at(book: &[u8], i: usize, b: usize) -> bool
-    requires { ⌜ (i + 4 ≤ length (now book)) × (b < 32) ⌝ }
-    ensures { λ r. ⌜ r ≡ any (eqTerm (var b)) (argsAt (now (book .entry)) i 4) ⌝ }
+// Whether the variable b stands in a used place among the n from i on.
+fn stands_at(book: &[u8], i: usize, n: usize, b: usize) -> bool
+    requires { ⌜ (i + n ≤ length (now book)) × (b < 128) ⌝ }
+    ensures { λ r. ⌜ r ≡ any (eqTerm (var b)) (argsAt (now (book .entry)) i n) ⌝ }
 {
     let mut w: usize = 0;
-    while w < PLACES {
+    while w < n {
         let x = wide(book[i + w]);
         if x == UNUSED {
             return false;
@@ -47,21 +45,21 @@ fn stands_at(book: &[u8], i: usize, b: usize) -> bool
     false
 }
 
-// Whether the byte b is no variable, or stands in one of the n atoms from i on.
-pub fn stands(book: &[u8], i: usize, n: usize, b: usize) -> bool
-    requires { ⌜ i + 5 * n ≤ length (now book) ⌝ }
-    ensures { λ r. ⌜ r ≡ standsIn (atomsAt stored (now (book .entry)) i n) b ⌝ }
+// Whether the byte b is no variable, or stands in one of the n atoms of w places from i on.
+pub fn stands(book: &[u8], i: usize, n: usize, w: usize, b: usize) -> bool
+    requires { ⌜ (i + (1 + w) * n ≤ length (now book)) × (w ≤ 6) ⌝ }
+    ensures { λ r. ⌜ r ≡ standsIn (8 * w) (atomsAt (holding w) (now (book .entry)) i n) b ⌝ }
 {
-    if VARIABLES <= b {
+    if variables(w) <= b {
         return true;
     }
     let mut at = i;
     let mut k: usize = 0;
     while k < n {
-        if stands_at(book, at + 1, b) {
+        if stands_at(book, at + 1, w, b) {
             return true;
         }
-        at = at + ATOM;
+        at = at + 1 + w;
         k = k + 1;
     }
     false

@@ -5,12 +5,17 @@ mod judge;
 mod words;
 
 pub use header::answers;
+pub use header::header_for;
 pub use header::in_table;
 pub use header::offsets_right;
+pub use header::places_for;
 pub use judge::contents;
 use reading::Header;
 use reading::Refusal;
 pub use words::ATOM;
-pub use words::HEADER;
+pub use words::NEW_HEADER;
+pub use words::OLD_HEADER;
+pub use words::OLD_PLACES;
+pub use words::PLACES;
 pub use words::wide;
 pub use words::word;

@@ -6,8 +6,8 @@ ghost use mathlib.Core.Bool.{cond};
 ghost use Prim.Native.Nat.{ℕ};
 ghost use lib.Dec.{ltb};
 ghost use lib.ListN.{length};
-ghost use Rattle.covering.specs.Record.{desk};
 ghost use Rattle.covering.specs.Desk.{coversAnswer, coversMap, keptAnswer, keptMap};
+ghost use Rattle.reading.specs.Copy.{CopiesNew, CopiesOld};
 ghost use Rattle.exploration.specs.Answer.{Answers};
 ghost use Rattle.library.specs.Lent.{lent};
 
@@ -24,6 +24,36 @@ pub extern "C" fn rauntiko_run(book: &[u8], out: &mut [u8], place: &mut usize) -
     let answer = explore::run(book, out);
     *place = answer.place;
     answer.number
+}
+
+// The book in the new form: refused 1 under 2,003 bytes of room, then as the book itself is; its place.
+#[no_mangle]
+pub extern "C" fn rauntiko_to_new(book: &[u8], out: &mut [u8], place: &mut usize) -> u8
+    ensures { λ r. ⌜ CopiesNew
+        (now (book .entry))
+        (now (out .entry))
+        r
+        (now (place .exit))
+        (now (out .exit)) ⌝ }
+{
+    let copy = forms::to_new(book, out);
+    *place = copy.place;
+    copy.number
+}
+
+// The book in the old form: the same, and 13 where it has none.
+#[no_mangle]
+pub extern "C" fn rauntiko_to_old(book: &[u8], out: &mut [u8], place: &mut usize) -> u8
+    ensures { λ r. ⌜ CopiesOld
+        (now (book .entry))
+        (now (out .entry))
+        r
+        (now (place .exit))
+        (now (out .exit)) ⌝ }
+{
+    let copied = forms::to_old(book, out);
+    *place = copied.place;
+    copied.number
 }
 
 // The lesser of two numbers.
@@ -49,13 +79,14 @@ fn lend(bytes: &[u8], room: &mut [u8])
 }
 
 // Whether the first record covers the second: 0 no, 1 yes, 2 the first is malformed, 3 the second is; and the first map.
+// An atom of the records has `width` places, four or six.
 #[no_mangle]
-pub extern "C" fn rauntiko_covers(first: &[u8], second: &[u8], map: &mut [u8]) -> u8
-    ensures { λ r. ⌜ (r ≡ coversAnswer desk (now (first .entry)) (now (second .entry)))
+pub extern "C" fn rauntiko_covers(first: &[u8], second: &[u8], width: usize, map: &mut [u8]) -> u8
+    ensures { λ r. ⌜ (r ≡ coversAnswer width (now (first .entry)) (now (second .entry)))
         × (now (map .exit)
-        ≡ lent (coversMap desk (now (first .entry)) (now (second .entry))) (now (map .entry))) ⌝ }
+        ≡ lent (coversMap width (now (first .entry)) (now (second .entry))) (now (map .entry))) ⌝ }
 {
-    let covered = cover::covers(first, second);
+    let covered = cover::covers(first, second, width);
     let found = covered.map;
     lend(&found, map);
     covered.number
@@ -64,12 +95,12 @@ pub extern "C" fn rauntiko_covers(first: &[u8], second: &[u8], map: &mut [u8]) -
 // Which of two records to keep: 1 the first, where it covers the second; 2 the second, where it alone covers; else 0;
 // and the map by which it covers the other.
 #[no_mangle]
-pub extern "C" fn rauntiko_kept(first: &[u8], second: &[u8], map: &mut [u8]) -> u8
-    ensures { λ r. ⌜ (r ≡ keptAnswer desk (now (first .entry)) (now (second .entry)))
+pub extern "C" fn rauntiko_kept(first: &[u8], second: &[u8], width: usize, map: &mut [u8]) -> u8
+    ensures { λ r. ⌜ (r ≡ keptAnswer width (now (first .entry)) (now (second .entry)))
         × (now (map .exit)
-        ≡ lent (keptMap desk (now (first .entry)) (now (second .entry))) (now (map .entry))) ⌝ }
+        ≡ lent (keptMap width (now (first .entry)) (now (second .entry))) (now (map .entry))) ⌝ }
 {
-    let kept = cover::kept(first, second);
+    let kept = cover::kept(first, second, width);
     let found = kept.map;
     lend(&found, map);
     kept.which

@@ -1,12 +1,12 @@
 -- What the builder's two functions answer: one law for each way through their code. The arguments of the call that a
 -- law is about are read off what the call was asked (Asks, Tries) or has reached. Assumes nothing.
 use mathlib.Core.Path.{_≡_, refl, sym, _∙_, ap, subst}
-use mathlib.Core.Bool.{Bool, true, false}
+use mathlib.Core.Bool.{Bool, true, false, not, _||_, true≢false}
 use mathlib.Core.List.{List, [], _∷_, _++_}
 use mathlib.Core.Option.{Option, none, some}
 use Prim.Native.Nat.{ℕ, suc, _+_, _*_, _-_, _≤_, _<_}
 use native.Mathlib.Omega.{arith}
-use lib.ListN.{length}
+use lib.ListN.{length, getD}
 use Rattle.covering.specs.Lists.{firstOf, numbers}
 use Rattle.covering.specs.Term.{Atom, Question, on-atom}
 use Rattle.covering.specs.Record.{stored, atomAt, atomsAt, questionOf}
@@ -14,35 +14,45 @@ use Rattle.covering.specs.Buffer.{heldIn, recordRoom}
 use Rattle.covering.proofs.Lengths.{count-atoms}
 use Rattle.book.specs.declared.Parts.{Parts}
 use Rattle.unification.specs.Choice.{count, atomPairs, toHead}
-use Rattle.unification.specs.Step.{up, move, judge}
-use Rattle.unify.specs.declared.Joined.{Joined}
+use Rattle.unification.specs.Step.{up, move, valid, judge}
 use Rattle.unify.specs.Table.{tabled}
-use Rattle.unify.specs.InBytes.{ruleIn, classesOf, joinedTable}
-use Rattle.unify.proofs.TableBytes.{joined-yes, joined-no}
+use Rattle.unify.specs.InBytes.{ruleIn, classesOf, merged}
+use Rattle.unify.proofs.TableBytes.{merged-yes, merged-no}
+use Rattle.unify.proofs.Joins.{pairs-apart}
 use Rattle.lister.specs.declared.Found.{Found}
 use Rattle.lister.specs.Build.{first, firstByDigit, since, tableBuilder}
-use Rattle.lister.specs.Listing.{ruleOf, foundOf, Asks}
+use Rattle.lister.specs.Listing.{ruleOf, foundOf, FoundIs, Asks}
 use Rattle.lister.proofs.Prefixes.{digits-none, digits-hit, digits-miss, head-pairs, digit-skips, prefix-digits}
 use Rattle.lister.proofs.Prefixes.{whole-sent, whole-unsent}
 use Rattle.lister.proofs.Asked.{Tries, meeting, left-holds}
+use Rattle.lister.proofs.Pruned.{asked-invalid}
+
+-- an answer to one thing that is sought is an answer to another that is the same
+pub told-same : {o o′ : Option (ℕ × Question)} {X Y : List ℕ} {r : Found} → o ≡ o′ → FoundIs o X r Y → FoundIs o′ X r Y
+told-same {X = X} {Y = Y} {r = r} e f = subst (λ (o : Option (ℕ × Question)). FoundIs o X r Y) e f
+
+-- nothing is there to be found, and the room is as it came
+pub told-none : {o : Option (ℕ × Question)} {X : List ℕ} {r : Found} → r ≡ foundOf none → o ≡ none → FoundIs o X r X
+told-none e n = told-same (sym n) (record { answer = e; room = refl })
 
 -- an answer that says found, or not, tells what it is the answer to
-found-first : (f : ℕ → Option (ℕ × Question)) (d n : ℕ) (r : Found) → 0 < n → r ≡ foundOf (f d) → r .found ≡ true
-    → r ≡ foundOf (firstOf f (numbers d n))
-found-first f d n r h e t = go (f d) refl (sym (ap (λ x. x .found) e) ∙ t)
-  where
-    go : (o : Option (ℕ × Question)) → f d ≡ o → foundOf o .found ≡ true → r ≡ foundOf (firstOf f (numbers d n))
-    go none q u = let z : _≡_ {A = ℕ} 0 1 = cc in absurd (omega arith)
-    go (some x) q u = e ∙ ap foundOf (q ∙ sym (digits-hit f d n h q))
+module _ {X Y : List ℕ} {r : Found} where
+  found-first : (f : ℕ → Option (ℕ × Question)) (d n : ℕ) → 0 < n → FoundIs (f d) X r Y → r .found ≡ true
+      → FoundIs (firstOf f (numbers d n)) X r Y
+  found-first f d n h e t = go (f d) refl (sym (ap (λ x. x .found) (e .answer)) ∙ t)
+    where
+      go : (o : Option (ℕ × Question)) → f d ≡ o → foundOf o .found ≡ true → FoundIs (firstOf f (numbers d n)) X r Y
+      go none q u = let z : _≡_ {A = ℕ} 0 1 = cc in absurd (omega arith)
+      go (some x) q u = told-same (q ∙ sym (digits-hit f d n h q)) e
 
-missed-none : (o : Option (ℕ × Question)) (r : Found) → r ≡ foundOf o → r .found ≡ false → o ≡ none
-missed-none none r e t = refl
-missed-none (some x) r e t =
-    let u : true ≡ false = sym (ap (λ x. x .found) e) ∙ t in
-    let z : _≡_ {A = ℕ} 0 1 = cc in
-    absurd (omega arith)
+  missed-none : (o : Option (ℕ × Question)) → FoundIs o X r Y → r .found ≡ false → (o ≡ none) × (Y ≡ X)
+  missed-none none e t = (refl, e .room)
+  missed-none (some x) e t =
+      let u : true ≡ false = sym (ap (λ x. x .found) (e .answer)) ∙ t in
+      let z : _≡_ {A = ℕ} 0 1 = cc in
+      absurd (omega arith)
 
-heads-are : (B : List ℕ) (p : Parts) → length (ruleOf B p .head) ≡ p .heads
+pub heads-are : (B : List ℕ) (p : Parts) → length (ruleOf B p .head) ≡ p .heads
 unfolding ruleIn
 heads-are B p = count-atoms stored B (p .heads) (p .head)
 
@@ -50,14 +60,14 @@ module _ (Q B : List ℕ) (p : Parts) (from i more number : ℕ) (sent : Bool) (
   -- what `build` looks for: the first that the choices with this prefix give
   abbrev pub sought : Option (ℕ × Question)
   sought =
-      first (tableBuilder 32 (ruleOf B p) from) number (questionOf stored A) sent (atomsAt stored Q i more)
+      first (tableBuilder 48 (ruleOf B p) from) number (questionOf stored A) sent (atomsAt stored Q i more)
       (classesOf table)
 
   -- what `try_digit` looks for: the same with the digit d for the next atom
   abbrev pub soughtBy : ℕ → Option (ℕ × Question)
   soughtBy =
-      firstByDigit (tableBuilder 32 (ruleOf B p) from) number (questionOf stored A) sent (atomAt stored Q i)
-      (atomsAt stored Q (i + 5) (more - 1)) (classesOf table)
+      firstByDigit (tableBuilder 48 (ruleOf B p) from) number (questionOf stored A) sent (atomAt stored Q i)
+      (atomsAt stored Q (i + 7) (more - 1)) (classesOf table)
 
   -- the digits before d gave nothing, so it is the first that those from d on give
   pub record Reached (heads d : ℕ) : Type 0 where
@@ -65,18 +75,35 @@ module _ (Q B : List ℕ) (p : Parts) (from i more number : ℕ) (sent : Bool) (
     pub within : d ≤ heads + 1
     pub rest : sought ≡ firstOf soughtBy (numbers d (suc heads - d))
 
+-- `build` at a prefix, of which was asked whether it can be valid
+module _ {Q B : List ℕ} {p : Parts} {i more number : ℕ} {sent : Bool} {A table : List ℕ}
+    (k : Asks Q B p i more number sent A table) (from : ℕ) (can : Bool)
+    (asked : can ≡ (not sent || valid (tabled (classesOf table)) (questionOf stored A) (move 48 (ruleOf B p)))) where
+  abbrev is-valid : Bool
+  is-valid = valid (tabled (classesOf table)) (questionOf stored A) (move 48 (ruleOf B p))
+
+  pub sought-invalid : can ≡ false → sought Q B p from i more number sent A table ≡ none
+  sought-invalid cannot = asked-invalid k from (go (not sent) is-valid (sym asked ∙ cannot))
+    where
+      go : (a v : Bool) → (a || v) ≡ false → v ≡ false
+      go true v e = absurd (true≢false e)
+      go false v e = e
+
+  pub sent-valid : can ≡ true → sent ≡ true → is-valid ≡ true
+  sent-valid it-can t = sym (ap (λ (b : Bool). not b || is-valid) t) ∙ sym asked ∙ it-can
+
 -- `build` at a whole choice
 module _ {Q B : List ℕ} {p : Parts} {i more number : ℕ} {sent : Bool} {A table : List ℕ}
     (k : Asks Q B p i more number sent A table) (from : ℕ) (none-left : more ≡ 0) where
   pub sought-whole : sent ≡ true
       → sought Q B p from i more number sent A table
-      ≡ since from number (judge (questionOf stored A) (move 32 (ruleOf B p)) (tabled (classesOf table)))
+      ≡ since from number (judge (questionOf stored A) (move 48 (ruleOf B p)) (tabled (classesOf table)))
   sought-whole =
-      whole-sent 32 (ruleOf B p) from number (questionOf stored A) sent (classesOf table) stored Q i more none-left
+      whole-sent 48 (ruleOf B p) from number (questionOf stored A) sent (classesOf table) stored Q i more none-left
 
   pub sought-unsent : sent ≡ false → sought Q B p from i more number sent A table ≡ none
   sought-unsent =
-      whole-unsent 32 (ruleOf B p) from number (questionOf stored A) sent (classesOf table) stored Q i more none-left
+      whole-unsent 48 (ruleOf B p) from number (questionOf stored A) sent (classesOf table) stored Q i more none-left
 
 -- `build` with atoms left goes through the digits
 module _ {Q B : List ℕ} {p : Parts} {from i more number : ℕ} {sent : Bool} {A table : List ℕ} where
@@ -85,7 +112,7 @@ module _ {Q B : List ℕ} {p : Parts} {from i more number : ℕ} {sent : Bool} {
       record {
         all = refl;
         within = omega arith;
-        rest = prefix-digits 32 (ruleOf B p) from number (questionOf stored A) sent (classesOf table) stored Q i more h
+        rest = prefix-digits 48 (ruleOf B p) from number (questionOf stored A) sent (classesOf table) stored Q i more h
             ∙ ap (λ n. firstOf (soughtBy Q B p from i more number sent A table) (numbers 0 n)) count-is;
       }
     where
@@ -96,34 +123,37 @@ module _ {Q B : List ℕ} {p : Parts} {from i more number : ℕ} {sent : Bool} {
     pub reached-last : heads < d → sought Q B p from i more number sent A table ≡ none
     reached-last h = at .rest ∙ digits-none _ d (suc heads - d) (omega arith)
 
-    module _ (h : d ≤ heads) {r : Found} (e : r ≡ foundOf (soughtBy Q B p from i more number sent A table d)) where
+    module _ (h : d ≤ heads) {X Y : List ℕ} {r : Found}
+        (e : FoundIs (soughtBy Q B p from i more number sent A table d) X r Y) where
       abbrev f : ℕ → Option (ℕ × Question)
       f = soughtBy Q B p from i more number sent A table
 
-      pub reached-found : r .found ≡ true → r ≡ foundOf (sought Q B p from i more number sent A table)
-      reached-found t = found-first f d (suc heads - d) r (omega arith) e t ∙ ap foundOf (sym (at .rest))
+      pub reached-found : r .found ≡ true → FoundIs (sought Q B p from i more number sent A table) X r Y
+      reached-found t = told-same (sym (at .rest)) (found-first f d (suc heads - d) (omega arith) e t)
 
-      pub reached-next : r .found ≡ false → Reached Q B p from i more number sent A table heads (d + 1)
+      pub reached-next : r .found ≡ false → Reached Q B p from i more number sent A table heads (d + 1) × (Y ≡ X)
       reached-next t =
-          record {
-            all = at .all;
-            within = omega arith;
-            rest = at .rest
-                ∙ digits-miss f d (suc heads - d) (suc heads - (d + 1)) (d + 1) (omega arith) (omega arith)
-                (missed-none (f d) r e t);
-          }
+          let missed = missed-none (f d) e t in (
+            record {
+              all = at .all;
+              within = omega arith;
+              rest = at .rest
+                  ∙ digits-miss f d (suc heads - d) (suc heads - (d + 1)) (d + 1) (omega arith) (omega arith) (missed .0);
+            },
+            missed .1,
+          )
 
 -- the pairs of an atom that is sent, in the book
-pairs-are : (B : List ℕ) (p : Parts) (a : Atom) (d : ℕ) → 0 < d → d ≤ p .heads
+pub pairs-are : (B : List ℕ) (p : Parts) (a : Atom) (d : ℕ) → 0 < d → d ≤ p .heads
     → (e : ℕ) × (d ≡ suc e)
-    × (toHead ((move 32 (ruleOf B p)) .head) e a
-    ≡ atomPairs a (on-atom (up 32) (atomAt stored B (p .head + (d - 1) * 5))))
+    × (toHead ((move 48 (ruleOf B p)) .head) e a
+    ≡ atomPairs a (on-atom (up 48) (atomAt stored B (p .head + (d - 1) * 7))))
 unfolding ruleIn
 pairs-are B p a (suc e) h le = (
   e,
   refl,
-  head-pairs 32 stored B (p .head) (p .heads) e a (omega arith)
-      ∙ ap (λ x. atomPairs a (on-atom (up 32) (atomAt stored B (p .head + x * 5)))) (omega arith),
+  head-pairs 48 stored B (p .head) (p .heads) e a (omega arith)
+      ∙ ap (λ x. atomPairs a (on-atom (up 48) (atomAt stored B (p .head + x * 7)))) (omega arith),
 )
 
 -- `try_digit` with the digit d
@@ -138,27 +168,39 @@ module _ {Q B : List ℕ} {p : Parts} {i more number : ℕ} {sent : Bool} {A tab
   -- all its choices come before the start
   pub skipped : (number * (p .heads + 1) + d + 1) * count (p .heads) (more - 1) ≤ from → by-d ≡ none
   skipped le =
-      digit-skips 32 (ruleOf B p) from number (questionOf stored A) sent (classesOf table) (atomAt stored Q i)
-      (atomsAt stored Q (i + 5) (more - 1)) d (subst (λ x. x ≤ from) (sym same) le)
+      digit-skips 48 (ruleOf B p) from number (questionOf stored A) sent (classesOf table) (atomAt stored Q i)
+      (atomsAt stored Q (i + 7) (more - 1)) d (subst (λ x. x ≤ from) (sym same) le)
     where
       same : suc (number * suc (length (ruleOf B p .head)) + d)
-          * count (length (ruleOf B p .head)) (length (atomsAt stored Q (i + 5) (more - 1)))
+          * count (length (ruleOf B p .head)) (length (atomsAt stored Q (i + 7) (more - 1)))
           ≡ (number * (p .heads + 1) + d + 1) * count (p .heads) (more - 1)
       same =
-          rw (heads-are B p, count-atoms stored Q (more - 1) (i + 5))
+          rw (heads-are B p, count-atoms stored Q (more - 1) (i + 7))
           (ap (λ x. x * count (p .heads) (more - 1)) (omega arith))
 
   -- the atom is left
   pub left-at : {R : List ℕ} → d ≡ 0 → R ≡ heldIn stored recordRoom (questionOf stored A ++ atomAt stored Q i ∷ [])
-      → sought Q B p from (i + 5) (more - 1) (number * (p .heads + 1) + d) sent R table ≡ by-d
+      → sought Q B p from (i + 7) (more - 1) (number * (p .heads + 1) + d) sent R table ≡ by-d
   left-at e q = rw (numbered, e, left-holds k q)
 
-  -- the atom is put on a head atom
-  module _ (h : 0 < d) (j : Joined) (e : joinedTable j ≡ meeting Q B p i table d) where
-    pub clash-at : j .ok ≡ false → by-d ≡ none
-    clash-at t = let r = pairs-are B p (atomAt stored Q i) d h (k .2) in rw (r .1, r .2, sym e ∙ joined-no j t)
+  -- the head atom is of another relation
+  pub apart-at : 0 < d → (getD Q i 0 ≡ getD B (p .head + (d - 1) * 7) 0 → ⊥) → by-d ≡ none
+  apart-at h ne =
+      let r = pairs-are B p (atomAt stored Q i) d h (k .2) in
+      rw (r .1, r .2, pairs-apart stored Q B i (p .head + (d - 1) * 7) (classesOf table) ne)
 
-    pub sent-at : j .ok ≡ true
-        → sought Q B p from (i + 5) (more - 1) (number * (p .heads + 1) + d) true A (j .table) ≡ by-d
+  -- the atom is put on a head atom, in a copy of the classes
+  module _ (h : 0 < d) (ok : Bool) (copy table′ : List ℕ) (e : merged ok table′ ≡ meeting Q B p i copy d)
+      (same : copy ≡ table) where
+    meets : meeting Q B p i table d ≡ merged ok table′
+    meets = ap (λ m. meeting Q B p i m d) (sym same) ∙ sym e
+
+    pub clash-at : ok ≡ false → by-d ≡ none
+    clash-at t =
+        let r = pairs-are B p (atomAt stored Q i) d h (k .2) in rw (r .1, r .2, meets ∙ merged-no ok table′ t)
+
+    pub sent-at : ok ≡ true
+        → sought Q B p from (i + 7) (more - 1) (number * (p .heads + 1) + d) true A table′ ≡ by-d
     sent-at t =
-        let r = pairs-are B p (atomAt stored Q i) d h (k .2) in rw (numbered, r .1, r .2, sym e ∙ joined-yes j t)
+        let r = pairs-are B p (atomAt stored Q i) d h (k .2) in
+        rw (numbered, r .1, r .2, meets ∙ merged-yes ok table′ t)

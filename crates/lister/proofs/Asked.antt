@@ -2,91 +2,81 @@
 use mathlib.Core.Path.{_≡_, refl, sym, _∙_, ap, subst}
 use mathlib.Core.Bool.{Bool, true, false}
 use mathlib.Core.Logic.{_⊎_, inl, inr}
-use mathlib.Core.List.{List, [], _∷_, _++_, List·Memᴰ·not-nil}
+use mathlib.Core.List.{List, [], _∷_, _++_, map, List·Memᴰ·not-nil}
 use mathlib.Core.List.{Memᴰ·of-map, List·Memᴰ·cases-cons}
 use mathlib.Core.Option.{Option, some}
 use Prim.Native.Nat.{ℕ, zero, suc, _+_, _*_, _-_, _≤_, _<_}
-use native.Mathlib.Nat.{mul-le-mul-left, mul-le-mul-right, le-of-eq, pow-zero}
+use native.Mathlib.Nat.{mul-le-mul-left}
 use native.Mathlib.Omega.{arith}
 use lib.Dec.{T, leb, leb→le}
-use lib.ListN.{getD}
+use lib.ListN.{length, length-map, getD}
 use Rattle.covering.specs.Lists.{_∈_}
 use Rattle.covering.specs.Term.{Term, Atom, Question, on-term, on-atom, Below}
-use Rattle.covering.specs.Record.{stored, atomAt, atomsAt, questionOf, isAtom, areAtoms, AtomFits, TermFits}
+use Rattle.covering.specs.Record.{stored, termOf, atomAt, atomsAt, questionOf, isAtom, areAtoms, AtomFits, TermFits}
 use Rattle.covering.specs.Buffer.{heldIn, RoomLeft, AtomIn, recordRoom}
 use Rattle.covering.proofs.Places.{question-at, sound-more}
 use Rattle.covering.proofs.Fitting.{atom-fits}
 use Rattle.covering.proofs.Terms.{terms-out}
 use Rattle.covering.proofs.Wider.{atom-means}
 use Rattle.book.specs.declared.Parts.{Parts}
-use Rattle.unify.specs.declared.Joined.{Joined}
 use Rattle.unification.specs.Choice.{count, placePairs, atomPairs}
 use Rattle.unification.specs.Step.{up, next}
 use Rattle.lister.specs.Build.{first, tableBuilder}
 use Rattle.unify.specs.Table.{Table, own, unifyTable}
-use Rattle.unify.specs.InBytes.{inBook, ruleIn, classesOf, joinedTable}
+use Rattle.unify.specs.InBytes.{inBook, ruleIn, classesOf, merged}
 use Rattle.lister.specs.Listing.{ruleOf, LeftIn, RuleIn, QuestionIn, ClassesFit, Asks}
 use Rattle.lister.specs.Counts.{mostChoices}
 use Rattle.unify.proofs.Each.{below, at}
-use Rattle.unify.proofs.TableBytes.{joined-yes}
-use Rattle.lister.proofs.Table.{next-table}
+use Rattle.unify.proofs.TableBytes.{merged-yes}
+use Rattle.lister.proofs.Table.{own-length, next-table}
 use Rattle.lister.proofs.Entries.{unify-good, place-ends, places-alone, EntriesEnd}
-use Rattle.unification.proofs.Numbers.{count-suc}
+use Rattle.unification.proofs.Prefix.{count-some}
 use Rattle.lister.proofs.Prefixes.{prefix-within}
 use Rattle.lister.proofs.RewritingBytes.{book-stored, book-apart, all-fit, rest-in, first-fits, first-atom-in}
 use Rattle.lister.proofs.LeftAtoms.{fits-stored, left-none, left-room, left-put}
 
--- there is at least one choice
-count-some : (h n : ℕ) → 1 ≤ count h n
-count-some h zero = le-of-eq (sym (pow-zero (suc h)))
-count-some h (suc n) =
-    let one = count-some h n in
-    let two : count h (suc n) ≡ suc h * count h n = count-suc h n in
-    let three : 1 * count h n ≤ suc h * count h n = mul-le-mul-right (count h n) (omega arith) in
-    omega arith
-
 -- the head atom after the first e is sound
-nth-sound : (B : List ℕ) (n e i : ℕ) → e < n → T (areAtoms inBook B i n) → T (isAtom inBook B (i + e * 5))
+pub nth-sound : (B : List ℕ) (n e i : ℕ) → e < n → T (areAtoms inBook B i n) → T (isAtom inBook B (i + e * 7))
 nth-sound B (suc n) zero i lt t =
     subst (λ x. T (isAtom inBook B x)) (omega arith) (sound-more inBook B i (suc n) (omega arith) t .0)
 nth-sound B (suc n) (suc e) i lt t =
-    subst (λ x. T (isAtom inBook B x)) same (nth-sound B n e (i + 5) (omega arith) rest)
+    subst (λ x. T (isAtom inBook B x)) same (nth-sound B n e (i + 7) (omega arith) rest)
   where
-    rest : T (areAtoms inBook B (i + 5) n)
-    rest = subst (λ m. T (areAtoms inBook B (i + 5) m)) (omega arith) (sound-more inBook B i (suc n) (omega arith) t .1)
+    rest : T (areAtoms inBook B (i + 7) n)
+    rest = subst (λ m. T (areAtoms inBook B (i + 7) m)) (omega arith) (sound-more inBook B i (suc n) (omega arith) t .1)
 
-    same : i + 5 + e * 5 ≡ i + suc e * 5
+    same : i + 7 + e * 7 ≡ i + suc e * 7
     same = omega arith
 nth-sound B zero e i lt t = absurd (omega arith)
 
 nth-fits : (B : List ℕ) (n e i : ℕ) → e < n → T (areAtoms inBook B i n)
-    → AtomFits inBook (atomAt stored B (i + e * 5))
+    → AtomFits inBook (atomAt stored B (i + e * 7))
 nth-fits B n e i lt t =
-    subst (AtomFits inBook) (atom-means inBook stored book-stored B (i + e * 5))
-    (atom-fits inBook book-apart B (omega arith) (i + e * 5) (nth-sound B n e i lt t))
+    subst (AtomFits inBook) (atom-means inBook stored book-stored B (i + e * 7))
+    (atom-fits inBook book-apart B (omega arith) (i + e * 7) (nth-sound B n e i lt t))
 
 -- classes stay fit when a question atom is put on a head atom
 joined-fit : (a b : Atom) (table table′ : List ℕ) → AtomFits inBook a → AtomFits inBook b → ClassesFit table
-    → unifyTable (atomPairs a (on-atom (up 32) b)) (classesOf table) ≡ some (classesOf table′) → ClassesFit table′
+    → unifyTable (atomPairs a (on-atom (up 48) b)) (classesOf table) ≡ some (classesOf table′) → ClassesFit table′
 joined-fit a b table table′ fa fb f e =
-    unify-good (TermFits stored) (placePairs (a .args) (on-atom (up 32) b .args)) (classesOf table) (classesOf table′)
-    ends f (places-alone a (on-atom (up 32) b) (classesOf table) (classesOf table′) e)
+    unify-good (TermFits stored) (placePairs (a .args) (on-atom (up 48) b .args)) (classesOf table) (classesOf table′)
+    ends f (places-alone a (on-atom (up 48) b) (classesOf table) (classesOf table′) e)
   where
     low : (c : ℕ) → c < 2 → TermFits stored (Term.con c)
     low c h = omega arith
 
-    raised : (t : Term) → TermFits inBook t → TermFits stored (on-term (up 32) t)
+    raised : (t : Term) → TermFits inBook t → TermFits stored (on-term (up 48) t)
     raised (Term.var n) h = omega arith
     raised (Term.con c) h = h
 
-    moved-fit : (t : Term) → t ∈ on-atom (up 32) b .args → TermFits stored t
+    moved-fit : (t : Term) → t ∈ on-atom (up 48) b .args → TermFits stored t
     moved-fit t m =
-        let r = Memᴰ·of-map (on-term (up 32)) (b .args) m in
+        let r = Memᴰ·of-map (on-term (up 48)) (b .args) m in
         subst (TermFits stored) (r .2) (raised (r .0) (fb .terms (r .0) (r .1)))
 
-    ends : EntriesEnd (TermFits stored) (placePairs (a .args) (on-atom (up 32) b .args))
+    ends : EntriesEnd (TermFits stored) (placePairs (a .args) (on-atom (up 48) b .args))
     ends =
-        place-ends (TermFits stored) (low 0 (omega arith)) (low 1 (omega arith)) (a .args) (on-atom (up 32) b .args)
+        place-ends (TermFits stored) (low 0 (omega arith)) (low 1 (omega arith)) (a .args) (on-atom (up 48) b .args)
         (fits-stored a fa .terms) moved-fit
 
 -- what `try_digit` is asked: there is a next atom, and its digit leaves it or sends it to a head atom
@@ -96,7 +86,7 @@ Tries Q B p i more number sent A table d = Asks Q B p i more number sent A table
 -- the classes with that atom put on the head atom of its digit
 abbrev pub meeting : List ℕ → List ℕ → Parts → ℕ → List ℕ → ℕ → Option Table
 meeting Q B p i table d =
-    unifyTable (atomPairs (atomAt stored Q i) (on-atom (up 32) (atomAt stored B (p .head + (d - 1) * 5)))) (classesOf table)
+    unifyTable (atomPairs (atomAt stored Q i) (on-atom (up 48) (atomAt stored B (p .head + (d - 1) * 7)))) (classesOf table)
 
 module _ {Q B : List ℕ} {p : Parts} {i more number : ℕ} {sent : Bool} {A table : List ℕ} {d : ℕ}
     (k : Tries Q B p i more number sent A table d) where
@@ -132,7 +122,7 @@ module _ {Q B : List ℕ} {p : Parts} {i more number : ℕ} {sent : Bool} {A tab
     pub left-holds : questionOf stored R ≡ questionOf stored A ++ atomAt stored Q i ∷ []
     left-holds = put .1
 
-    pub child-left : Asks Q B p (i + 5) (more - 1) (number * (p .heads + 1) + d) sent R table
+    pub child-left : Asks Q B p (i + 7) (more - 1) (number * (p .heads + 1) + d) sent R table
     child-left =
         record {
           atoms = rest-in Q i more (k .0 .atoms) (k .1);
@@ -141,20 +131,22 @@ module _ {Q B : List ℕ} {p : Parts} {i more number : ℕ} {sent : Bool} {A tab
           few = omega (arith, k .0 .few, k .1, put .2);
           fewer = λ t. omega (arith, k .0 .fewer t, k .1, put .2);
           small = child-small;
+          size = k .0 .size;
           classes = k .0 .classes;
         }
 
   -- the atom is sent: the head atom is sound, and the classes stay fit
   module _ (h : 0 < d) where
-    pub head-sound : T (isAtom inBook B (p .head + (d - 1) * 5))
+    pub head-sound : T (isAtom inBook B (p .head + (d - 1) * 7))
     head-sound = nth-sound B (p .heads) (d - 1) (p .head) (omega (arith, k .2)) (k .0 .rule .head .sound)
 
-    head-fits : AtomFits inBook (atomAt stored B (p .head + (d - 1) * 5))
+    head-fits : AtomFits inBook (atomAt stored B (p .head + (d - 1) * 7))
     head-fits = nth-fits B (p .heads) (d - 1) (p .head) (omega (arith, k .2)) (k .0 .rule .head .sound)
 
-    pub child-sent : (j : Joined) → joinedTable j ≡ meeting Q B p i table d → j .ok ≡ true
-        → Asks Q B p (i + 5) (more - 1) (number * (p .heads + 1) + d) true A (j .table)
-    child-sent j e t =
+    pub child-sent : (r : Bool) (copy table′ : List ℕ) → merged r table′ ≡ meeting Q B p i copy d
+        → length table′ ≡ length copy → copy ≡ table → r ≡ true
+        → Asks Q B p (i + 7) (more - 1) (number * (p .heads + 1) + d) true A table′
+    child-sent r copy table′ e kept same t =
         record {
           atoms = rest-in Q i more (k .0 .atoms) (k .1);
           rule = k .0 .rule;
@@ -162,12 +154,14 @@ module _ {Q B : List ℕ} {p : Parts} {i more number : ℕ} {sent : Bool} {A tab
           few = omega (arith, k .0 .few);
           fewer = λ u. omega (arith, k .0 .few, k .1);
           small = child-small;
-          classes = joined-fit (atomAt stored Q i) (atomAt stored B (p .head + (d - 1) * 5)) table (j .table)
-              (first-fits Q i more (k .0 .atoms) (k .1)) head-fits (k .0 .classes) (sym e ∙ joined-yes j t);
+          size = kept ∙ ap length same ∙ k .0 .size;
+          classes = joined-fit (atomAt stored Q i) (atomAt stored B (p .head + (d - 1) * 7)) table table′
+              (first-fits Q i more (k .0 .atoms) (k .1)) head-fits (k .0 .classes)
+              (ap (λ m. meeting Q B p i m d) (sym same) ∙ sym e ∙ merged-yes r table′ t);
         }
 
 -- where the builder starts
-own-fits : (i n : ℕ) → i + n ≤ 64 → (t : Term) → t ∈ own i n → TermFits stored t
+own-fits : (i n : ℕ) → i + n ≤ 96 → (t : Term) → t ∈ own i n → TermFits stored t
 own-fits i zero h t m = absurd (List·Memᴰ·not-nil m)
 own-fits i (suc n) h t m = go (List·Memᴰ·cases-cons m) (λ k. own-fits (suc i) n (omega arith) t k)
   where
@@ -175,8 +169,8 @@ own-fits i (suc n) h t m = go (List·Memᴰ·cases-cons m) (λ k. own-fits (suc 
     go (inl e) below = subst (TermFits stored) (sym e) (omega arith)
     go (inr k) below = below k
 
-pub apart-fit : (table : List ℕ) → classesOf table ≡ own 0 64 → ClassesFit table
-apart-fit table e t m = own-fits 0 64 (omega arith) t (subst (λ l. t ∈ l) e m)
+pub apart-fit : (table : List ℕ) → classesOf table ≡ own 0 96 → ClassesFit table
+apart-fit table e t m = own-fits 0 96 (omega arith) t (subst (λ l. t ∈ l) e m)
 
 -- there are no more choices than that, by one computed test
 few : ℕ → ℕ → Bool
@@ -187,11 +181,15 @@ unfolding few
 count-few h n a b =
     leb→le (count h n) mostChoices (at 10 (few h) (at 5 (λ i. below 10 (few i)) tt h (omega arith)) n (omega arith))
 
-fits-below : (A : Question) → ((a : Atom) → a ∈ A → AtomFits inBook a) → Below 32 A
+pub fits-below : (A : Question) → ((a : Atom) → a ∈ A → AtomFits inBook a) → Below 48 A
 fits-below A f n m = let r = terms-out A m in f (r .0) (r .1) .terms (Term.var n) (r .2)
 
 module _ (Q B : List ℕ) (p : Parts) (q : QuestionIn Q) (r : RuleIn B p) (A table : List ℕ)
-    (e : A ≡ heldIn stored recordRoom []) (o : classesOf table ≡ own 0 64) where
+    (e : A ≡ heldIn stored recordRoom []) (o : classesOf table ≡ own 0 96) where
+  all-entries : length (map termOf table) ≡ length (own 0 96)
+  unfolding classesOf
+  all-entries = ap length o
+
   pub start-asks : Asks Q B p 1 (getD Q 0 0) 0 false A table
   start-asks =
       let l = left-none A e in
@@ -202,18 +200,19 @@ module _ (Q B : List ℕ) (p : Parts) (q : QuestionIn Q) (r : RuleIn B p) (A tab
         few = omega (arith, q .few, l .2);
         fewer = λ t. let z : _≡_ {A = ℕ} 0 1 = cc in absurd (omega arith);
         small = omega (arith, count-few (p .heads) (getD Q 0 0) (r .few-head) (q .few));
+        size = sym (length-map table termOf) ∙ all-entries ∙ own-length 0 96;
         classes = apart-fit table o;
       }
 
   pub start-next : (from : ℕ)
-      → first (tableBuilder 32 (ruleOf B p) from) 0 (questionOf stored A) false (atomsAt stored Q 1 (getD Q 0 0))
+      → first (tableBuilder 48 (ruleOf B p) from) 0 (questionOf stored A) false (atomsAt stored Q 1 (getD Q 0 0))
       (classesOf table)
-      ≡ next 32 (ruleOf B p) (questionOf stored Q) from
+      ≡ next 48 (ruleOf B p) (questionOf stored Q) from
   unfolding ruleIn
   start-next from =
       rw (left-none A e .1, o, question-at stored Q refl)
       (sym
-      (next-table 32 32 (ruleOf B p) (atomsAt stored Q 1 (getD Q 0 0)) from
+      (next-table 48 48 (ruleOf B p) (atomsAt stored Q 1 (getD Q 0 0)) from
       (fits-below _ (all-fit Q 1 (getD Q 0 0) (q .atoms)))
       (fits-below _ (all-fit B (p .body) (p .bodies) (r .body)))
       (fits-below _ (all-fit B (p .head) (p .heads) (r .head)))))

@@ -15,13 +15,14 @@ use Rattle.covering.specs.Lists.{keep, head, push, bind, firstOf, collect, numb
 use Rattle.covering.specs.Term.{Atom, Question, Sub, var}
 use Rattle.covering.proofs.Tests.{not-of, cond-no}
 use Rattle.covering.specs.Rule.{Rule}
-use Rattle.unification.specs.Classes.{Pair, merge, unify}
+use Rattle.unification.specs.Classes.{unify}
 use Rattle.unification.specs.Choice.{Choice, count, number, choices, someSent, left, toHead, pairing}
 use Rattle.unification.specs.Step.{move, judge, stepApart, step, label, listed, from, next}
 use Rattle.lister.specs.Build.{Builder, byDigit, listOf, more, build, first, since, builder, firstByDigit}
 use Rattle.unification.proofs.Collected.{gather-same, passing, collect-same, collect-none, collect-keep, keep-collect}
 use Rattle.unification.proofs.Collected.{collect-gather, collect-map, head-gather, firstOf-same, firstOf-none}
 use Rattle.unification.proofs.Numbers.{count-suc}
+use Rattle.unification.proofs.Extending.{unify-append}
 use Rattle.covering.proofs.Lists.{numbers-below}
 use Rattle.lister.proofs.NumberFrom.{numberFrom, number-from, sends-some}
 
@@ -197,15 +198,6 @@ since-early n c o h =
     cond-no (leb n c) (label c o) none (not-of (leb n c) (λ t. let k : n ≤ c = leb→le n c t in omega arith))
 
 -- one-step rewritings
-pub unify-append : (ps qs : List Pair) (σ : Sub) → unify (ps ++ qs) σ ≡ bind (unify ps σ) (λ τ. unify qs τ)
-unify-append [] qs σ = refl
-unify-append (p ∷ ps) qs σ = go (merge σ p) (λ τ. unify-append ps qs τ)
-  where
-    go : (o : Option Sub) → ((τ : Sub) → unify (ps ++ qs) τ ≡ bind (unify ps τ) (λ τ. unify qs τ))
-        → bind o (λ τ. unify (ps ++ qs) τ) ≡ bind (bind o (λ τ. unify ps τ)) (λ τ. unify qs τ)
-    go none below = refl
-    go (some τ) below = below τ
-
 module _ (k : ℕ) (r : Rule) (n : ℕ) where
   abbrev H : Question
   H = (move k r) .head

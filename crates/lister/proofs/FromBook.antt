@@ -1,4 +1,4 @@
--- For whoever lists from a sound book: its rules and its question are what `next` asks for, and what `next` finds is
+-- For whoever lists from a sound book in the new form: its rules and its question are what `next` asks for, and what `next` finds is
 -- numbered from where it was asked on and below the count of choices. Assumes nothing.
 use mathlib.Core.Path.{_≡_, refl, sym, _∙_, ap, subst}
 use mathlib.Core.Bool.{true, false}
@@ -14,11 +14,12 @@ use Rattle.covering.proofs.Lengths.{count-atoms, question-count}
 use Rattle.covering.specs.Buffer.{heldIn, recordRoom}
 use Rattle.covering.specs.Asking.{joined}
 use Rattle.covering.proofs.Padded.{held-sound, held-written}
-use Rattle.reading.proofs.Reading.{rule-is}
+use Rattle.reading.proofs.Reading.{rule-stored}
+use Rattle.reading.proofs.Forms.{new-places, new-variables, new-rule-end, new-head}
 use Rattle.reading.proofs.Fits.{question-record}
 use Rattle.lister.proofs.RewritingBytes.{book-stored, book-apart}
 use Rattle.book.specs.declared.Parts.{Parts}
-use Rattle.reading.specs.Header.{rules, atoms}
+use Rattle.reading.specs.Header.{rules, new, formOf}
 use Rattle.reading.specs.Book.{ruleAt, ruleStart, bookOf, layoutOf}
 use Rattle.reading.specs.Verdict.{SoundBook}
 use Rattle.book.specs.Parts.{partsAt}
@@ -42,14 +43,14 @@ held-in M fits = subst QuestionIn (held-written inBook stored book-stored record
     own : QuestionIn (heldIn inBook recordRoom M)
     own = record { atoms = record { fits = s .fits; sound = s .atoms }; few = s .most }
 
-module _ (B : List ℕ) (s : SoundBook B) where
+module _ (B : List ℕ) (s : SoundBook B) (f : formOf B ≡ new) where
   own-wider : Wider (layoutOf B) inBook
   own-wider =
       record {
         relations = sound-header B s .few-relations;
         answers = λ t. tt;
-        places = refl;
-        variables = omega arith;
+        places = new-places B f;
+        variables = omega (arith, new-variables B f);
         constants = sound-header B s .few-constants;
       }
 
@@ -62,8 +63,8 @@ module _ (B : List ℕ) (s : SoundBook B) where
       let k = sound-header B s in
       record {
         relations-fit = k .few-relations;
-        places-are = refl;
-        variables-fit = omega arith;
+        places-are = sym (new-places B f);
+        variables-fit = omega (arith, new-variables B f);
         constants-fit = k .few-constants;
       }
 
@@ -71,15 +72,16 @@ module _ (B : List ℕ) (s : SoundBook B) where
   rule-in k l =
       let r = sound-rule B s k l in
       let q = sound-question B s in
+      let end = new-rule-end B f (ruleStart B k) in
       record {
         body =
             record {
-              fits = omega (arith, r .ends, q .ends);
+              fits = omega (arith, r .ends, q .ends, end);
               sound = sound-body B s inBook room k l;
             };
         head =
             record {
-              fits = omega (arith, r .ends, q .ends);
+              fits = omega (arith, r .ends, q .ends, end, new-head B f (ruleStart B k));
               sound = sound-head B s inBook room k l;
             };
         few-body = r .few-body;
@@ -94,9 +96,9 @@ module _ (B : List ℕ) (s : SoundBook B) where
       (held-in (joined (bookOf B .question)) (question-record B inBook room s (λ t. tt) (omega (arith, records-few B))))
 
 -- the rule that `next` is asked about is the book's
-pub rule-asked : (B : List ℕ) (s : ℕ) → ruleOf B (partsAt B s) ≡ ruleAt B s
+pub rule-asked : (B : List ℕ) → formOf B ≡ new → (s : ℕ) → ruleOf B (partsAt B s) ≡ ruleAt B s
 unfolding ruleIn
-rule-asked B s = sym (rule-is B s)
+rule-asked B f s = sym (rule-stored B f s)
 
 module _ (Q B : List ℕ) (p : Parts) (q : QuestionIn Q) (r : RuleIn B p) (from : ℕ) where
   heads : length (ruleOf B p .head) ≡ p .heads
@@ -106,11 +108,11 @@ module _ (Q B : List ℕ) (p : Parts) (q : QuestionIn Q) (r : RuleIn B p) (from 
   long : length (questionOf stored Q) ≡ getD Q 0 0
   long = question-count stored Q
 
-  pub found-within : (f : Found) → f ≡ foundOf (next 32 (ruleOf B p) (questionOf stored Q) from) → f .found ≡ true
+  pub found-within : (f : Found) → f ≡ foundOf (next 48 (ruleOf B p) (questionOf stored Q) from) → f .found ≡ true
       → (from ≤ f .choice) × (f .choice < mostChoices)
-  found-within f e t = go (next 32 (ruleOf B p) (questionOf stored Q) from) refl e
+  found-within f e t = go (next 48 (ruleOf B p) (questionOf stored Q) from) refl e
     where
-      go : (o : Option (ℕ × Question)) → next 32 (ruleOf B p) (questionOf stored Q) from ≡ o → f ≡ foundOf o
+      go : (o : Option (ℕ × Question)) → next 48 (ruleOf B p) (questionOf stored Q) from ≡ o → f ≡ foundOf o
           → (from ≤ f .choice) × (f .choice < mostChoices)
       go none o a =
           let z : true ≡ false = sym t ∙ ap (λ (x : Found). x .found) a in
@@ -118,8 +120,8 @@ module _ (Q B : List ℕ) (p : Parts) (q : QuestionIn Q) (r : RuleIn B p) (from 
           absurd (omega arith)
       go (some x) o a =
           let c : f .choice ≡ x .0 = ap (λ (y : Found). y .choice) a in
-          let m = next-listed 32 (ruleOf B p) (questionOf stored Q) from x o in
-          let b = listed-below 32 (ruleOf B p) (questionOf stored Q) (x .0) (x .1) (m .0) in
+          let m = next-listed 48 (ruleOf B p) (questionOf stored Q) from x o in
+          let b = listed-below 48 (ruleOf B p) (questionOf stored Q) (x .0) (x .1) (m .0) in
           let h =
           count-few (length (ruleOf B p .head)) (length (questionOf stored Q)) (omega (arith, heads, r .few-head))
           (omega (arith, long, q .few)) in

@@ -3,6 +3,7 @@
 -- the builder and its table do what the definitions say
 pub mod NumberFrom
 pub mod Build
+pub mod Carried
 pub mod Table
 -- what the code holds in bytes
 pub mod Entries
@@ -11,7 +12,9 @@ pub mod Halves
 pub mod RewritingBytes
 pub mod LeftAtoms
 pub mod Asked
+pub mod Pruned
 pub mod Answers
+pub mod FirstDigits
 -- a sound book gives what the lister asks for; any two results of a contract are equal
 pub mod FromBook
 pub mod Determined

@@ -11,17 +11,17 @@ use lib.ListN.{length, getD, length-map, length-append}
 use Rattle.covering.specs.Lists.{_∈_}
 use Rattle.covering.specs.Term.{Term, var, con, Atom, Question, Sub, on-term, on-atom, on-question, comp}
 use Rattle.covering.specs.Record.{stored, size, termOf, atomAt, atomsAt, questionOf, areAtoms, TermFits, AtomFits}
-use Rattle.covering.specs.Record.{SoundRecord}
+use Rattle.covering.specs.Record.{Fits}
 use Rattle.covering.specs.Buffer.{heldIn, AtomIn, AtomsIn, RoomLeft, recordRoom}
 use Rattle.forming.specs.Building.{subOf}
 use Rattle.covering.proofs.Lists.{map-same, map-append}
 use Rattle.covering.proofs.Terms.{on-atom-comp, on-atom-same}
 use Rattle.covering.proofs.Places.{atoms-none, atoms-more, sound-more, question-at}
 use Rattle.covering.proofs.RoundTrip.{TellsApart, stored-apart}
-use Rattle.covering.proofs.Padded.{held-count, held-question, held-atoms, held-sound}
+use Rattle.covering.proofs.Padded.{held-count, held-question, held-atoms}
 use Rattle.covering.proofs.Lengths.{count-atoms, question-count}
 use Rattle.covering.proofs.Fitting.{atom-fits, atoms-fit}
-use Rattle.forming.proofs.Growing.{Grows, grows-question, grows-room, grows-put}
+use Rattle.forming.proofs.Growing.{Grows, grows-question, grows-length, grows-room, grows-put}
 use Rattle.forming.proofs.AtomBytes.{table-at}
 use Rattle.covering.proofs.Wider.{Wider, atom-means, atoms-mean, atom-fits-wider}
 use Rattle.covering.proofs.Within.{in-wider}
@@ -29,7 +29,7 @@ use Rattle.book.specs.declared.Parts.{Parts}
 use Rattle.unification.specs.Step.{up, move, rewriting}
 use Rattle.unify.specs.Table.{tabled}
 use Rattle.unify.specs.InBytes.{inBook, classesOf, ruleIn}
-use Rattle.lister.specs.Listing.{ruleOf, ClassesFit, Filling, UpperHalf, LeftIn, RuleIn}
+use Rattle.lister.specs.Listing.{ruleOf, ClassesFit, Filling, UpperHalf, LeftIn, RuleIn, Written}
 use Rattle.unify.proofs.TableBytes.{classes-at}
 use Rattle.lister.proofs.Halves.{upper-fits, in-classes}
 
@@ -52,7 +52,7 @@ first-atom-in B i n a h =
     let d = in-wider inBook stored book-stored stored-apart B i n a in
     record { fits = omega (arith, d .fits); sound = sound-more stored B i n h (d .sound) .0 }
 
-pub rest-in : (B : List ℕ) (i n : ℕ) → AtomsIn inBook B i n → 0 < n → AtomsIn inBook B (i + 5) (n - 1)
+pub rest-in : (B : List ℕ) (i n : ℕ) → AtomsIn inBook B i n → 0 < n → AtomsIn inBook B (i + 7) (n - 1)
 rest-in B i n a h = record { fits = omega (arith, a .fits); sound = sound-more inBook B i n h (a .sound) .1 }
 
 pub first-fits : (B : List ℕ) (i n : ℕ) → AtomsIn inBook B i n → 0 < n → AtomFits inBook (atomAt stored B i)
@@ -66,8 +66,8 @@ all-fit B i n s a m =
     (subst (λ A. a ∈ A) (sym (atoms-mean inBook stored book-stored B i n)) m)
 
 -- what the table has for a variable
-module _ (table : List ℕ) (fit : ClassesFit table) (long : length table ≡ 64) where
-  sub-fits : (n : ℕ) → n < 64 → TermFits stored (subOf table n)
+module _ (table : List ℕ) (fit : ClassesFit table) (long : length table ≡ 96) where
+  sub-fits : (n : ℕ) → n < 96 → TermFits stored (subOf table n)
   sub-fits n h =
       subst (TermFits stored) (sym (table-at table n)) (fit (termOf (getD table n 0)) (in-classes table n (omega arith)))
 
@@ -80,7 +80,7 @@ module _ (table : List ℕ) (fit : ClassesFit table) (long : length table ≡ 64
       record {
         relation = atom-fits-wider inBook stored book-stored f .relation;
         some-place = subst (λ n. 1 ≤ n) (sym (length-map (a .args) (on-term (subOf table)))) (f .some-place);
-        places = subst (λ n. n ≤ 4) (sym (length-map (a .args) (on-term (subOf table)))) (f .places);
+        places = subst (λ n. n ≤ 6) (sym (length-map (a .args) (on-term (subOf table)))) (f .places);
         terms = λ t m. go t (Memᴰ·of-map (on-term (subOf table)) (a .args) m);
       }
     where
@@ -108,6 +108,9 @@ grows-filling B A n g =
       room = omega (arith, g .room, ap (λ X. getD X 0 0) (g .bytes) ∙ held-count stored recordRoom A);
     }
 
+pub filling-length : (A : List ℕ) (n : ℕ) → Filling A n → length A ≡ 85
+filling-length A n f = grows-length stored stored-apart recordRoom A (questionOf stored A) n (filling-grows A n f)
+
 pub filling-room : (A : List ℕ) (n : ℕ) → Filling A n → 0 < n → RoomLeft stored recordRoom A
 filling-room A n f h = grows-room stored stored-apart recordRoom A (questionOf stored A) n (filling-grows A n f) h
 
@@ -128,11 +131,11 @@ filling-none R n e h =
 pub put-more : (s : Sub) (A R F : List ℕ) (i n : ℕ) → 0 < n
     → questionOf stored R ≡ questionOf stored A ++ on-atom s (atomAt stored F i) ∷ []
     → questionOf stored A ++ on-question s (atomsAt stored F i n)
-    ≡ questionOf stored R ++ on-question s (atomsAt stored F (i + 5) (n - 1))
+    ≡ questionOf stored R ++ on-question s (atomsAt stored F (i + 7) (n - 1))
 put-more s A R F i n h e =
     ap (λ q. questionOf stored A ++ on-question s q) (atoms-more stored F i n h)
     ∙ sym (append-assoc (questionOf stored A) (on-atom s (atomAt stored F i) ∷ []) _)
-    ∙ ap (λ q. q ++ on-question s (atomsAt stored F (i + 5) (n - 1))) (sym e)
+    ∙ ap (λ q. q ++ on-question s (atomsAt stored F (i + 7) (n - 1))) (sym e)
 
 pub put-none : (s : Sub) (A F : List ℕ) (i n k : ℕ) → n ≡ 0 → Filling A k
     → A ≡ heldIn stored recordRoom (questionOf stored A ++ on-question s (atomsAt stored F i n))
@@ -143,7 +146,7 @@ put-none s A F i n k e f =
 
 -- two substitutions that agree on the variables of a book's atoms
 on-question-same : (s t : Sub) (A : Question) → ((a : Atom) → a ∈ A → AtomFits inBook a)
-    → ((n : ℕ) → n < 32 → s n ≡ t n) → on-question s A ≡ on-question t A
+    → ((n : ℕ) → n < 48 → s n ≡ t n) → on-question s A ≡ on-question t A
 on-question-same s t A f h = map-same (on-atom s) (on-atom t) A (λ a m. on-atom-same s t a (λ u i. one u (f a m .terms u i)))
   where
     one : (u : Term) → TermFits inBook u → on-term s u ≡ on-term t u
@@ -152,14 +155,14 @@ on-question-same s t A f h = map-same (on-atom s) (on-atom t) A (λ a m. on-atom
 
 -- The rewriting: the left atoms by the classes, then the body by their upper half.
 module _ (left book table upper : List ℕ) (p : Parts) (li : LeftIn left) (few : getD left 0 0 ≤ 8) (ru : RuleIn book p)
-    (fit : ClassesFit table) (long : length table ≡ 64) (uh : UpperHalf table upper) where
+    (fit : ClassesFit table) (long : length table ≡ 96) (uh : UpperHalf table upper) where
   abbrev L′ : Question
   L′ = on-question (subOf table) (atomsAt stored left 1 (getD left 0 0))
 
   abbrev B′ : Question
   B′ = on-question (subOf upper) (atomsAt stored book (p .body) (p .bodies))
 
-  mapped-fit : (m : List ℕ) → ClassesFit m → length m ≡ 64 → (A : Question) → ((a : Atom) → a ∈ A → AtomFits inBook a)
+  mapped-fit : (m : List ℕ) → ClassesFit m → length m ≡ 96 → (A : Question) → ((a : Atom) → a ∈ A → AtomFits inBook a)
       → (b : Atom) → b ∈ on-question (subOf m) A → AtomFits stored b
   mapped-fit m f g A each b i =
       let r = Memᴰ·of-map (on-atom (subOf m)) A i in
@@ -210,24 +213,15 @@ module _ (left book table upper : List ℕ) (p : Parts) (li : LeftIn left) (few 
         whole-bytes : R₂ ≡ heldIn stored recordRoom (L′ ++ B′)
         whole-bytes = e₂ ∙ ap (λ q. heldIn stored recordRoom (q ++ B′)) left-question
 
-        pub whole-sound : SoundRecord stored R₂
-        whole-sound =
-            subst (SoundRecord stored) (sym whole-bytes)
-            (held-sound stored recordRoom (L′ ++ B′) stored-apart
-            (record {
-              most = rw whole-count (omega (arith, ru .few-body));
-              each = whole-fit;
-            })
-            (rw whole-count (omega (arith, ru .few-body))))
+        whole-fits : Fits stored (L′ ++ B′)
+        whole-fits = record { most = rw whole-count (omega (arith, ru .few-body)); each = whole-fit }
 
-        pub whole-question : questionOf stored R₂ ≡ rewriting (tabled (classesOf table)) (questionOf stored left) (move 32 (ruleOf book p))
+        whole-question : L′ ++ B′ ≡ rewriting (tabled (classesOf table)) (questionOf stored left) (move 48 (ruleOf book p))
         unfolding ruleIn
         whole-question =
-            ap (questionOf stored) whole-bytes
-            ∙ held-question stored recordRoom (L′ ++ B′) stored-apart whole-fit
-            ∙ ap₂ (λ x y. x ++ y) of-left of-body
-            ∙ sym (map-append (on-atom σ) (atomsAt stored left 1 (getD left 0 0)) (on-question (up 32) body))
-            ∙ ap (λ (q : Question). rewriting σ q (move 32 (ruleOf book p))) (sym (question-at stored left refl))
+            ap₂ (λ x y. x ++ y) of-left of-body
+            ∙ sym (map-append (on-atom σ) (atomsAt stored left 1 (getD left 0 0)) (on-question (up 48) body))
+            ∙ ap (λ (q : Question). rewriting σ q (move 48 (ruleOf book p))) (sym (question-at stored left refl))
           where
             σ : Sub
             σ = tabled (classesOf table)
@@ -235,21 +229,28 @@ module _ (left book table upper : List ℕ) (p : Parts) (li : LeftIn left) (few 
             body : Question
             body = atomsAt stored book (p .body) (p .bodies)
 
-            at : (n : ℕ) → n < 64 → termOf (getD table n 0) ≡ σ n
+            at : (n : ℕ) → n < 96 → termOf (getD table n 0) ≡ σ n
             at n h = sym (classes-at table n (var n) (omega arith))
 
             of-left : L′ ≡ on-question σ (atomsAt stored left 1 (getD left 0 0))
             of-left =
                 on-question-same (subOf table) σ _ (all-fit left 1 (getD left 0 0) (li .atoms)) (λ n h. lower n (omega arith))
               where
-                lower : (n : ℕ) → n < 64 → subOf table n ≡ σ n
+                lower : (n : ℕ) → n < 96 → subOf table n ≡ σ n
                 lower n h = table-at table n ∙ at n h
 
-            of-body : B′ ≡ on-question σ (on-question (up 32) body)
+            of-body : B′ ≡ on-question σ (on-question (up 48) body)
             of-body =
-                on-question-same (subOf upper) (comp σ (up 32)) body (all-fit book (p .body) (p .bodies) (ru .body)) higher
-                ∙ map-same _ _ body (λ a m. sym (on-atom-comp σ (up 32) a))
-                ∙ sym (map-map (on-atom σ) (on-atom (up 32)) body)
+                on-question-same (subOf upper) (comp σ (up 48)) body (all-fit book (p .body) (p .bodies) (ru .body)) higher
+                ∙ map-same _ _ body (λ a m. sym (on-atom-comp σ (up 48) a))
+                ∙ sym (map-map (on-atom σ) (on-atom (up 48)) body)
               where
-                higher : (n : ℕ) → n < 32 → subOf upper n ≡ σ (32 + n)
-                higher n h = table-at upper n ∙ ap termOf (uh .moved n h) ∙ at (n + 32) (omega arith) ∙ ap σ (omega arith)
+                higher : (n : ℕ) → n < 48 → subOf upper n ≡ σ (48 + n)
+                higher n h = table-at upper n ∙ ap termOf (uh .moved n h) ∙ at (n + 48) (omega arith) ∙ ap σ (omega arith)
+
+        pub whole-written : Written (rewriting (tabled (classesOf table)) (questionOf stored left) (move 48 (ruleOf book p))) R₂
+        whole-written =
+            record {
+              bytes = whole-bytes ∙ ap (heldIn stored recordRoom) whole-question;
+              fits = subst (Fits stored) whole-question whole-fits;
+            }

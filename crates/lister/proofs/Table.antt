@@ -1,5 +1,5 @@
 -- A table of representatives does what the classes do (`unify-same`), so the builder over tables gives what the
--- builder over classes gives, and its first result is `next`'s (`next-tabled`). Assumes nothing.
+-- builder over classes gives (`table-same`), and its first result is `next`'s (`next-tabled`). Assumes nothing.
 use mathlib.Core.Path.{_≡_, refl, sym, _∙_, ap, subst, subst₂}
 use mathlib.Core.Bool.{Bool, true, false, cond}
 use mathlib.Core.Logic.{_⊎_, inl, inr}
@@ -97,7 +97,7 @@ module _ (k : ℕ) where
       go (some n) none s below = absurd s
       go (some n) (some τ) s below = below n τ s
 
-own-length : (i n : ℕ) → length (own i n) ≡ n
+pub own-length : (i n : ℕ) → length (own i n) ≡ n
 own-length i zero = refl
 own-length i (suc n) = ap suc (own-length (suc i) n)
 
@@ -177,7 +177,7 @@ module _ {C D X : Type 0} (B : Builder C X) (E : Builder D X) (R : C → D → T
             (meets-same e a m σ (f a (List·Memᴰ·head refl)) k) rest
 
 -- the terms of the pairs of an atom and a head atom
-abbrev Small : ℕ → List Pair → Type 0
+abbrev pub Small : ℕ → List Pair → Type 0
 Small k ps = (p : Pair) → p ∈ ps → In k (p .0) × In k (p .1)
 
 never-small : (k : ℕ) → Small k never
@@ -195,7 +195,7 @@ places-small k (t ∷ ts) (u ∷ us) f g p (List·Memᴰ·head e) =
 places-small k (t ∷ ts) (u ∷ us) f g p (List·Memᴰ·tail m) =
     places-small k ts us (λ v n. f v (List·Memᴰ·tail n)) (λ v n. g v (List·Memᴰ·tail n)) p m
 
-head-small : (k : ℕ) (H : Question) (d : ℕ) (a : Atom) → ((t : Term) → t ∈ a .args → In k t)
+pub head-small : (k : ℕ) (H : Question) (d : ℕ) (a : Atom) → ((t : Term) → t ∈ a .args → In k t)
     → ((t : Term) → t ∈ terms H → In k t) → Small k (toHead H d a)
 head-small k [] d a f g p m = never-small k p m
 head-small k (b ∷ H) zero a f g p (List·Memᴰ·head e) =
@@ -208,44 +208,46 @@ pub below-in : (k : ℕ) (A : Question) → Below k A → (t : Term) → t ∈ t
 below-in k A f (var n) m = f n m
 below-in k A f (con c) m = tt
 
--- the next rewriting by a table of so many variables, if all those of the question and of the moved rule are below
--- it
-pub next-tabled : (size k : ℕ) (r : Rule) (Q : Question) (n : ℕ) → Below size Q → Below size ((move k r) .body)
-    → Below size ((move k r) .head) → next k r Q n ≡ first (tableBuilder k r n) 0 [] false Q (own 0 size)
-next-tabled size k r Q n lowQ lowB lowH =
-    next-built k r n Q
-    ∙ sym
-    (first-same (tableBuilder k r n) (builder k r n) (Agree size) G refl meets verdicts Q
-    0 [] false (own 0 size) var all-small (λ a m. absurd (List·Memᴰ·not-nil m))
-    (own-agrees size))
+-- a table of so many variables, if all those of the moved rule, of the atoms to go and of the left ones are below it
+module _ (size k : ℕ) (r : Rule) (n : ℕ) (lowB : Below size ((move k r) .body)) (lowH : Below size ((move k r) .head))
   where
-    G : Atom → Type 0
-    G a = (t : Term) → t ∈ a .args → In size t
+    abbrev Low : Atom → Type 0
+    Low a = (t : Term) → t ∈ a .args → In size t
 
-    all-small : (a : Atom) → a ∈ Q → G a
-    all-small a m t x = below-in size Q lowQ t (terms-in Q m x)
+    low-atoms : (A : Question) → Below size A → (a : Atom) → a ∈ A → Low a
+    low-atoms A low a m t x = below-in size A low t (terms-in A m x)
 
-    meets : (d : ℕ) (a : Atom) (m : Table) (σ : Sub) → G a → Agree size m σ
+    meets : (d : ℕ) (a : Atom) (m : Table) (σ : Sub) → Low a → Agree size m σ
         → BothTables (Agree size) (unifyTable (toHead ((move k r) .head) d a) m) (unify (toHead ((move k r) .head) d a) σ)
-    meets d a m σ g k′ =
+    meets d a m σ g h =
         unify-same size (toHead ((move k r) .head) d a) m σ
-        (head-small size ((move k r) .head) d a g (below-in size ((move k r) .head) lowH))
-        k′
+        (head-small size ((move k r) .head) d a g (below-in size ((move k r) .head) lowH)) h
 
-    verdicts : (c : ℕ) (L : Question) (m : Table) (σ : Sub) → ((a : Atom) → a ∈ L → G a) → Agree size m σ
-        → since n c (judge L (move k r) (tabled m)) ≡ since n c (judge L (move k r) σ)
-    verdicts c L m σ g a = ap (since n c) (judge-table size m σ L (move k r) a guards)
+    guards : (L : Question) → ((a : Atom) → a ∈ L → Low a) → (t : Term) → t ∈ guarded L (move k r) → In size t
+    guards L g t m = at (List·Memᴰ·append-cases (terms L) m)
       where
-        in-rule : (t : Term) → (t ∈ terms ((move k r) .body)) ⊎ (t ∈ terms ((move k r) .head)) → In size t
-        in-rule t (inl x) = below-in size ((move k r) .body) lowB t x
-        in-rule t (inr x) = below-in size ((move k r) .head) lowH t x
+        in-rule : (t ∈ terms ((move k r) .body)) ⊎ (t ∈ terms ((move k r) .head)) → In size t
+        in-rule (inl x) = below-in size ((move k r) .body) lowB t x
+        in-rule (inr x) = below-in size ((move k r) .head) lowH t x
 
-        at : (t : Term) → (t ∈ terms L) ⊎ (t ∈ terms ((move k r) .body) ++ terms ((move k r) .head)) → In size t
-        at t (inl x) = let y = terms-out L x in g (y .0) (y .1) t (y .2)
-        at t (inr x) = in-rule t (List·Memᴰ·append-cases (terms ((move k r) .body)) x)
+        at : (t ∈ terms L) ⊎ (t ∈ terms ((move k r) .body) ++ terms ((move k r) .head)) → In size t
+        at (inl x) = let y = terms-out L x in g (y .0) (y .1) t (y .2)
+        at (inr x) = in-rule (List·Memᴰ·append-cases (terms ((move k r) .body)) x)
 
-        guards : (t : Term) → t ∈ guarded L (move k r) → In size t
-        guards t m = at t (List·Memᴰ·append-cases (terms L) m)
+    -- the builder over tables gives what the builder over classes gives
+    pub table-same : (q : Question) (w : ℕ) (L : Question) (b : Bool) (m : Table) (σ : Sub) → Below size q
+        → Below size L → Agree size m σ → first (tableBuilder k r n) w L b q m ≡ first (builder k r n) w L b q σ
+    table-same q w L b m σ lowq lowL a =
+        first-same (tableBuilder k r n) (builder k r n) (Agree size) Low refl meets
+        (λ c A t τ g h. ap (since n c) (judge-table size t τ A (move k r) h (guards A g)))
+        q w L b m σ (low-atoms q lowq) (low-atoms L lowL) a
+
+    -- and its first result is the next rewriting
+    pub next-tabled : (Q : Question) → Below size Q
+        → next k r Q n ≡ first (tableBuilder k r n) 0 [] false Q (own 0 size)
+    next-tabled Q low =
+        next-built k r n Q
+        ∙ sym (table-same Q 0 [] false (own 0 size) var low (λ i m. absurd (List·Memᴰ·not-nil m)) (own-agrees size))
 
 -- a prefix whose choices all lie before the start gives nothing
 pub table-skips : (k : ℕ) (r : Rule) (n : ℕ) (q : Question) (w : ℕ) (L : Question) (b : Bool) (m : Table)
@@ -258,7 +260,7 @@ table-skips k r n q w L b m h =
 pub next-table : (k j : ℕ) (r : Rule) (Q : Question) (n : ℕ) → Below k Q → Below j (r .body) → Below j (r .head)
     → next k r Q n ≡ first (tableBuilder k r n) 0 [] false Q (own 0 (k + j))
 next-table k j r Q n lowQ lowB lowH =
-    next-tabled (k + j) k r Q n question (moved-below k j (r .body) lowB) (moved-below k j (r .head) lowH)
+    next-tabled (k + j) k r n (moved-below k j (r .body) lowB) (moved-below k j (r .head) lowH) Q question
   where
     question : Below (k + j) Q
     question i m = let less : i < k = lowQ i m in omega arith

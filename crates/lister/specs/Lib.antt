@@ -3,3 +3,4 @@
 pub mod Counts
 pub mod Build
 pub mod Listing
+pub mod FirstDigits

@@ -1,4 +1,4 @@
--- What the lister is asked and what it answers, as the code holds it. The contract of `next` needs `foundOf`, `ruleOf`
+-- What the lister is asked and what it answers, as the code holds it. The contract of `next` needs `FoundIs`, `ruleOf`
 -- and what is asked of the rule and the question; the others are the functions' own.
 use mathlib.Core.Path.{_≡_}
 use mathlib.Core.Bool.{Bool, true, false}
@@ -6,10 +6,10 @@ use mathlib.Core.List.{List}
 use mathlib.Core.Option.{Option, none, some}
 use Prim.Native.Nat.{ℕ, suc, _+_, _*_, _≤_, _<_}
 use lib.Dec.{T}
-use lib.ListN.{length, getD, replicate}
+use lib.ListN.{length, getD}
 use Rattle.covering.specs.Lists.{_∈_}
 use Rattle.covering.specs.Term.{Term, Question}
-use Rattle.covering.specs.Record.{stored, questionOf, areAtoms, TermFits}
+use Rattle.covering.specs.Record.{stored, questionOf, areAtoms, TermFits, Fits}
 use Rattle.covering.specs.Buffer.{heldIn, AtomsIn, recordRoom}
 use Rattle.covering.specs.Rule.{Rule}
 use Rattle.book.specs.declared.Parts.{Parts}
@@ -22,10 +22,20 @@ use Rattle.unify.specs.InBytes.{inBook, ruleIn, classesOf}
 abbrev pub ruleOf : List ℕ → Parts → Rule
 ruleOf B p = ruleIn B (p .body) (p .bodies) (p .head) (p .heads)
 
--- what an answer holds: the choice's number and its rewriting as a record, or nothing
+-- what an answer says: the choice's number, or nothing
 abbrev pub foundOf : Option (ℕ × Question) → Found
-foundOf none = record { found = false; choice = 0; rewriting = replicate recordRoom 255 }
-foundOf (some e) = record { found = true; choice = e .0; rewriting = heldIn stored recordRoom (e .1) }
+foundOf none = record { found = false; choice = 0 }
+foundOf (some e) = record { found = true; choice = e .0 }
+
+-- what the room lent for the rewriting, which came as X, then holds: its record, or X still
+abbrev pub roomOf : Option (ℕ × Question) → List ℕ → List ℕ
+roomOf none X = X
+roomOf (some e) X = heldIn stored recordRoom (e .1)
+
+-- the answer r and the room Y tell what was sought
+pub record FoundIs (sought : Option (ℕ × Question)) (X : List ℕ) (r : Found) (Y : List ℕ) : Type 0 where
+  pub answer : r ≡ foundOf sought
+  pub room : Y ≡ roomOf sought X
 
 -- a rule of a sound book: sound atoms, one to four in its head and at most four in its body
 pub record RuleIn (B : List ℕ) (p : Parts) : Type 0 where
@@ -55,10 +65,15 @@ pub record Filling (A : List ℕ) (n : ℕ) : Type 0 where
   pub atoms : T (areAtoms stored A 1 (getD A 0 0))
   pub room : getD A 0 0 + n ≤ 12
 
+-- a record of 85 bytes, of a question that fits one
+pub record Written (X : Question) (R : List ℕ) : Type 0 where
+  pub bytes : R ≡ heldIn stored recordRoom X
+  pub fits : Fits stored X
+
 -- what stands for the rule's variables, moved down again
 pub record UpperHalf (table upper : List ℕ) : Type 0 where
-  pub moved : (n : ℕ) → n < 32 → getD upper n 0 ≡ getD table (n + 32) 0
-  pub others : (n : ℕ) → 32 ≤ n → getD upper n 0 ≡ getD table n 0
+  pub moved : (n : ℕ) → n < 48 → getD upper n 0 ≡ getD table (n + 48) 0
+  pub others : (n : ℕ) → 48 ≤ n → getD upper n 0 ≡ getD table n 0
   pub size : length upper ≡ length table
 
 -- what the builder is given: the `more` atoms of Q from i on are to get a digit; the choice's number so far; whether
@@ -71,4 +86,5 @@ pub record Asks (Q B : List ℕ) (p : Parts) (i more number : ℕ) (sent : Bool)
   pub few : getD A 0 0 + more ≤ 9
   pub fewer : sent ≡ true → getD A 0 0 + more ≤ 8
   pub small : suc number * count (p .heads) more ≤ mostChoices
+  pub size : length table ≡ 96
   pub classes : ClassesFit table

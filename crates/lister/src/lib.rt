@@ -3,14 +3,24 @@
 use covering::RECORD;
 
 mod builder;
+mod classes;
 mod powers;
+mod prefix;
 mod writing;
 
 pub use builder::next;
+pub use prefix::after_prefix;
+pub use prefix::prefix_rewriting;
 
-// The next rewriting: whether there is one, its choice's number, and its record at the front of 61 bytes, the rest 255.
+// The next rewriting: whether there is one, and its choice's number. Its record goes to the room that is lent for it.
 pub struct Found {
     pub found: bool,
     pub choice: usize,
+}
+
+// What the first digits of a choice settle: whether the atoms can be sent so, and the left atoms and the body by their
+// classes, a record at the front of 85 bytes, the rest 255.
+pub struct Settled {
+    pub met: bool,
     pub rewriting: [u8; RECORD],
 }

@@ -4,7 +4,7 @@ use mathlib.Core.List.{List, _++_}
 use Prim.Native.Nat.{ℕ}
 use lib.ListN.{take, drop}
 use denote.Ref.{now}
-use Rattle.printing.specs.Put.{Puts}
+use Rattle.covering.specs.Put.{Puts}
 use Rattle.printing.proofs.answer.Reads as answer-reads
 
 -- where the bytes end, and every byte of the text

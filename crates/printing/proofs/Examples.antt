@@ -5,7 +5,8 @@ use Rattle.covering.specs.Search.{covers, firstMap, findMap}
 use Rattle.covering.specs.Form.{form}
 use Rattle.covering.specs.Record.{termOf, argsAt, atomAt, atomsAt, atomBytes}
 use Rattle.reading.specs.Word.{word}
-use Rattle.reading.specs.Header.{announced}
+use Rattle.reading.specs.Header.{formFor, announced}
+use Rattle.reading.specs.Written.{ruleBytes, headerBytes, bookBytes}
 use Rattle.reading.specs.Book.{ruleAt, rulesFrom, after, questionIn, bookOf}
 use Rattle.reading.specs.Refusals.{usedPlaces}
 use Rattle.reading.specs.Verdict.{inTable, offsetsRight, wrongPlaces, ruleRight, wrongRule, wrongPlace, wrongInAtom}
@@ -20,7 +21,7 @@ use Rattle.printing.specs.Examples.{shown, examples}
 
 pub examples-hold : map shown examples ≡ examples
 unfolding examples covers firstMap findMap form step listed rewritings admit through exploring runBy run
-    termOf argsAt atomAt atomsAt atomBytes word announced ruleAt rulesFrom after questionIn bookOf
+    termOf argsAt atomAt atomsAt atomBytes word formFor ruleBytes headerBytes bookBytes announced ruleAt rulesFrom after questionIn bookOf
     inTable offsetsRight wrongPlaces ruleRight wrongRule wrongPlace wrongInAtom wrongInAtoms wrongInRules usedPlaces
     wrongAnswer wrongInQuestion wrongByte looseFrom looseVariable contents verdict result linesOf figures decimal termText relationText atomText memberLine line
 examples-hold = refl

@@ -1,7 +1,6 @@
 -- The laws of printing.
 
--- bytes put one after the other; numbers in decimal; terms, atoms and members
-pub mod Putting
+-- numbers in decimal; terms, atoms and members
 pub mod Decimal
 pub mod Texts
 -- the whole: what is printed for an answer

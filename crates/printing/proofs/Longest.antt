@@ -46,7 +46,7 @@ module _ {A : Type 0} where
       (λ x m. let one = h x m in omega (arith, length-append mark (shown x))) in
       omega (arith, separated-marked mark shown xs)
 
--- "v63", "c126"
+-- "v95", "c126"
 term-most : (t : Term) → TermFits stored t → length (termText t) ≤ 4
 term-most (var n) h = let d = decimal-most 1 n (omega arith) in omega (arith, ap length (var-text n))
 term-most (con c) h = let d = decimal-most 2 c (omega arith) in omega (arith, ap length (con-text c))
@@ -67,7 +67,7 @@ atom-is : (a : Atom)
 unfolding atomText
 atom-is a = refl
 
-atom-most : (a : Atom) → AtomFits stored a → length (atomText a) ≤ 25
+atom-most : (a : Atom) → AtomFits stored a → length (atomText a) ≤ 35
 atom-most a f =
     let r = relation-most (a .rel) (f .relation) in
     let ts = separated (ascii ",") termText (a .args) in
@@ -91,9 +91,9 @@ member-is : (M : Question)
 unfolding memberLine
 member-is M = refl
 
-member-most : (M : Question) → Fits stored M → length M ≤ 9 → length (memberLine M) ≤ 242
+member-most : (M : Question) → Fits stored M → length M ≤ 9 → length (memberLine M) ≤ 332
 member-most M f few =
-    let t = separated-most (ascii " ") atomText 25 M (λ a m. atom-most a (f .each a m)) in
+    let t = separated-most (ascii " ") atomText 35 M (λ a m. atom-most a (f .each a m)) in
     let e = alwaysText (asking M .answer) (asking M .atoms) in
     omega (
       arith,
@@ -110,7 +110,7 @@ pub union-most : (U : List Question) (n : ℕ) → length U ≤ 64 → n ≤ 100
 union-most U n few allowed fits short =
     let a = decimal-most 1 (length U) (omega arith) in
     let b = decimal-most 3 n (omega arith) in
-    let c = gather-most memberLine 242 U (λ M m. member-most M (fits M m) (short M m)) in
+    let c = gather-most memberLine 332 U (λ M m. member-most M (fits M m) (short M m)) in
     omega (
       arith,
       line-length (ascii "members ") (length U) (ascii " explored ") n,

@@ -10,7 +10,7 @@ use lib.Dec.{T}
 use lib.ListN.{length, getD, length-append}
 use Rattle.covering.specs.Lists.{gather}
 use Rattle.covering.specs.Term.{Term, var, con, Question}
-use Rattle.covering.specs.Record.{stored, termOf, argsAt, atomAt, atomsAt, isAtom}
+use Rattle.covering.specs.Record.{newPlaces, stored, termOf, argsAt, atomAt, atomsAt, isAtom}
 use Rattle.covering.proofs.Bytes.{term-var, term-con, atom-first}
 use Rattle.covering.proofs.Places.{args-none, args-step, relation-at, args-at, atoms-none, atoms-more}
 use Rattle.covering.proofs.Fitting.{term-is-used}
@@ -125,7 +125,7 @@ module _ (B : List ℕ) (i : ℕ) where
   first-used s = term-is-used stored stored-apart (getD B (i + 1) 0) (atom-first stored B i s)
 
   atom-is : atomText (atomAt stored B i)
-      ≡ relationText (getD B i 0) ++ (ascii "(" ++ (separated (ascii ",") termText (argsAt B (i + 1) 4) ++ ascii ")"))
+      ≡ relationText (getD B i 0) ++ (ascii "(" ++ (separated (ascii ",") termText (argsAt B (i + 1) 6) ++ ascii ")"))
   unfolding atomText
   atom-is =
       ap₂
@@ -137,22 +137,22 @@ module _ (B : List ℕ) (i : ℕ) where
       → atomText (atomAt stored B i)
       ≡ relationText (getD B i 0)
       ++ (ascii "("
-      ++ ((termText (termOf (getD B (i + 1) 0)) ++ marked (ascii ",") termText (argsAt B (i + 2) 3)) ++ ascii ")"))
+      ++ ((termText (termOf (getD B (i + 1) 0)) ++ marked (ascii ",") termText (argsAt B (i + 2) 5)) ++ ascii ")"))
   atom-text s =
       atom-is
       ∙ ap
       (λ (ts : List Term).
       relationText (getD B i 0) ++ (ascii "(" ++ (separated (ascii ",") termText ts ++ ascii ")")))
-      (args-next B (i + 1) 3 (first-used s) ∙ ap (λ (k : ℕ). termOf (getD B (i + 1) 0) ∷ argsAt B k 3) (omega arith))
+      (args-next B (i + 1) 5 (first-used s) ∙ ap (λ (k : ℕ). termOf (getD B (i + 1) 0) ∷ argsAt B k 5) (omega arith))
 
   pub atom-length : T (isAtom stored B i)
       → length (atomText (atomAt stored B i))
       ≡ 2 + length (relationText (getD B i 0)) + length (termText (termOf (getD B (i + 1) 0)))
-      + length (marked (ascii ",") termText (argsAt B (i + 2) 3))
+      + length (marked (ascii ",") termText (argsAt B (i + 2) 5))
   atom-length s =
       let relation = relationText (getD B i 0) in
       let first = termText (termOf (getD B (i + 1) 0)) in
-      let rest = termsText B (i + 2) 3 in
+      let rest = termsText B (i + 2) 5 in
       ap length (atom-text s)
       ∙ omega (
         arith,
@@ -171,15 +171,15 @@ module _ (B : List ℕ) (i n : ℕ) where
 
   pub atoms-next : 0 < n
       → marked (ascii " ") atomText (atomsAt stored B i n)
-      ≡ (ascii " " ++ atomText (atomAt stored B i)) ++ marked (ascii " ") atomText (atomsAt stored B (i + 5) (n - 1))
+      ≡ (ascii " " ++ atomText (atomAt stored B i)) ++ marked (ascii " ") atomText (atomsAt stored B (i + 7) (n - 1))
   atoms-next h = ap (marked (ascii " ") atomText) (atoms-more stored B i n h)
 
   pub atoms-length : 0 < n
       → length (marked (ascii " ") atomText (atomsAt stored B i n))
-      ≡ 1 + length (atomText (atomAt stored B i)) + length (marked (ascii " ") atomText (atomsAt stored B (i + 5) (n - 1)))
+      ≡ 1 + length (atomText (atomAt stored B i)) + length (marked (ascii " ") atomText (atomsAt stored B (i + 7) (n - 1)))
   atoms-length h =
       ap length (atoms-next h)
-      ∙ length-append (ascii " " ++ atomText (atomAt stored B i)) (atomsText B (i + 5) (n - 1))
+      ∙ length-append (ascii " " ++ atomText (atomAt stored B i)) (atomsText B (i + 7) (n - 1))
       ∙ omega arith
 
 -- atoms with a space between two
@@ -189,13 +189,13 @@ module _ (B : List ℕ) (i n : ℕ) where
 
   pub all-some : 0 < n
       → separated (ascii " ") atomText (atomsAt stored B i n)
-      ≡ atomText (atomAt stored B i) ++ marked (ascii " ") atomText (atomsAt stored B (i + 5) (n - 1))
+      ≡ atomText (atomAt stored B i) ++ marked (ascii " ") atomText (atomsAt stored B (i + 7) (n - 1))
   all-some h = ap (separated (ascii " ") atomText) (atoms-more stored B i n h)
 
   pub all-length : 0 < n
       → length (separated (ascii " ") atomText (atomsAt stored B i n))
-      ≡ length (atomText (atomAt stored B i)) + length (marked (ascii " ") atomText (atomsAt stored B (i + 5) (n - 1)))
-  all-length h = ap length (all-some h) ∙ length-append (atomText (atomAt stored B i)) (atomsText B (i + 5) (n - 1))
+      ≡ length (atomText (atomAt stored B i)) + length (marked (ascii " ") atomText (atomsAt stored B (i + 7) (n - 1)))
+  all-length h = ap length (all-some h) ∙ length-append (atomText (atomAt stored B i)) (atomsText B (i + 7) (n - 1))
 
 -- what stands for no atoms
 module _ (count answers : ℕ) where
@@ -242,28 +242,28 @@ module _ {answers count : ℕ} (M : Question) (c : Counted answers count M) wher
 
 -- members, each with so many answer records
 module _ (answers : ℕ) (W : List ℕ) (i n : ℕ) where
-  pub members-end : n ≡ 0 → gather memberLine (membersFrom answers W i n) ≡ []
+  pub members-end : n ≡ 0 → gather memberLine (membersFrom newPlaces answers W i n) ≡ []
   members-end e =
-      ap (λ (k : ℕ). gather memberLine (membersFrom answers W i k)) e ∙ ap (gather memberLine) (member-none answers W i)
+      ap (λ (k : ℕ). gather memberLine (membersFrom newPlaces answers W i k)) e ∙ ap (gather memberLine) (member-none newPlaces answers W i)
 
   pub members-next : 0 < n
-      → gather memberLine (membersFrom answers W i n)
+      → gather memberLine (membersFrom newPlaces answers W i n)
       ≡ memberLine (atomsAt stored W (i + 1) (answers + byte W i))
-      ++ gather memberLine (membersFrom answers W (memberEnd answers W i) (n - 1))
+      ++ gather memberLine (membersFrom newPlaces answers W (memberEnd newPlaces answers W i) (n - 1))
   members-next h =
-      ap (λ (k : ℕ). gather memberLine (membersFrom answers W i k)) (less-one n h)
-      ∙ ap (gather memberLine) (member-next answers W i (n - 1))
+      ap (λ (k : ℕ). gather memberLine (membersFrom newPlaces answers W i k)) (less-one n h)
+      ∙ ap (gather memberLine) (member-next newPlaces answers W i (n - 1))
 
   pub members-length : 0 < n
-      → length (gather memberLine (membersFrom answers W i n))
+      → length (gather memberLine (membersFrom newPlaces answers W i n))
       ≡ length (memberLine (atomsAt stored W (i + 1) (answers + byte W i)))
-      + length (gather memberLine (membersFrom answers W (memberEnd answers W i) (n - 1)))
+      + length (gather memberLine (membersFrom newPlaces answers W (memberEnd newPlaces answers W i) (n - 1)))
   members-length h =
       ap length (members-next h)
       ∙ length-append (memberLine (atomsAt stored W (i + 1) (answers + byte W i)))
-      (gather memberLine (membersFrom answers W (memberEnd answers W i) (n - 1)))
+      (gather memberLine (membersFrom newPlaces answers W (memberEnd newPlaces answers W i) (n - 1)))
 
   -- the first of them, and the others
-  pub first-stands : 0 < n → WrittenAt answers W i n
-      → MemberAt answers W i × WrittenAt answers W (memberEnd answers W i) (n - 1)
-  first-stands h s = written-next answers W i (n - 1) (subst (WrittenAt answers W i) (less-one n h) s)
+  pub first-stands : 0 < n → WrittenAt newPlaces answers W i n
+      → MemberAt newPlaces answers W i × WrittenAt newPlaces answers W (memberEnd newPlaces answers W i) (n - 1)
+  first-stands h s = written-next newPlaces answers W i (n - 1) (subst (WrittenAt newPlaces answers W i) (less-one n h) s)

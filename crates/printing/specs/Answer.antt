@@ -9,7 +9,7 @@ use Rattle.printing.specs.Printed.{printed}
 
 -- the bytes that the longest text needs, and more
 abbrev pub textSize : ℕ
-textSize = 16384
+textSize = 24576
 
 -- what is printed for a book into a text of so many bytes: nothing where it might not fit
 unfoldable pub linesOf : List ℕ → ℕ → List ℕ

@@ -6,12 +6,17 @@ ghost use mathlib.Core.Path.{_≡_};
 ghost use Prim.Native.Nat.{_+_, _≤_};
 ghost use lib.ListN.{length};
 ghost use Rattle.reading.specs.Word.{word as wordAt};
+ghost use Rattle.reading.specs.Header.{formOf, new};
 ghost use Rattle.reading.specs.Verdict.{SoundBook};
 ghost use Rattle.printing.specs.Printed.{printed};
-ghost use Rattle.printing.specs.Answer.{linesOf};
+ghost use Rattle.printing.specs.Answer.{linesOf, textSize};
+ghost use Rattle.exploration.specs.Answer.{result};
+ghost use Rattle.exploration.specs.Union.{outputSize};
 ghost use Rattle.printing.specs.Printable.{resultIn, Printable};
-ghost use Rattle.printing.specs.Put.{Puts};
+ghost use Rattle.covering.specs.Put.{Puts};
 ghost use Rattle.exploration.specs.Refusals.{answersOf};
+use forms::BOOK;
+use forms::to_new;
 use lines::put_line;
 use lines::put_members;
 
@@ -56,10 +61,27 @@ fn answer_records(book: &[u8], number: u8) -> u8
 }
 
 // The bytes that the longest text needs, and more.
-pub const TEXT: usize = 16384;
+pub const TEXT: usize = 24576;
+
+// Prints the answer to a book in the new form, whose members have six places an atom as all that is printed has.
+fn answer_new(book: &[u8], text: &mut [u8]) -> usize
+    requires { ⌜ (formOf (now book) ≡ new) × (textSize ≤ length (now text)) ⌝ }
+    ensures { λ r. ⌜ Puts
+        (printed (result (now (book .entry)) outputSize))
+        (now (text .entry))
+        0
+        r
+        (now (text .exit)) ⌝ }
+{
+    let mut output = [0u8; explore::OUTPUT];
+    let r = explore::run(book, &mut output);
+    let number = r.number;
+    let place = r.place;
+    print(number, place, &output, answer_records(book, number), text)
+}
 
 // Prints the answer to a book to the front of the text, and answers where it ends. A text that might be too short is
-// left as it is.
+// left as it is. What is printed does not tell the forms apart, so the book is printed as it is in the new form.
 pub fn answer(book: &[u8], text: &mut [u8]) -> usize
     ensures { λ r. ⌜ Puts
         (linesOf (now (book .entry)) (length (now (text .entry))))
@@ -71,9 +93,17 @@ pub fn answer(book: &[u8], text: &mut [u8]) -> usize
     if text.len() < TEXT {
         return 0;
     }
-    let mut output = [0u8; explore::OUTPUT];
-    let r = explore::run(book, &mut output);
-    let number = r.number;
-    let place = r.place;
-    print(number, place, &output, answer_records(book, number), text)
+    let mut wide = [0u8; BOOK];
+    let copy = to_new(book, &mut wide);
+    if copy.number != 0 {
+        return put_line(
+            text,
+            0,
+            b"refused ",
+            copy.number as usize,
+            b" at ",
+            copy.place,
+        );
+    }
+    answer_new(&wide[..copy.place], text)
 }

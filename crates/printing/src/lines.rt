@@ -3,13 +3,13 @@ ghost use Prim.Native.Nat.{_+_, _*_, _≤_, _<_};
 ghost use lib.Dec.{T};
 ghost use lib.ListN.{length};
 ghost use Rattle.covering.specs.Lists.{gather};
-ghost use Rattle.covering.specs.Record.{stored, argsAt, atomAt, atomsAt, isAtom, areAtoms};
+ghost use Rattle.covering.specs.Record.{newPlaces, stored, argsAt, atomAt, atomsAt, isAtom, areAtoms};
 ghost use Rattle.covering.specs.Buffer.{AtomsIn};
 ghost use Rattle.exploration.specs.Union.{membersFrom};
 ghost use Rattle.exploration.specs.Standing.{Counted, WrittenAt};
 ghost use Rattle.printing.specs.Printed.{ascii, marked, separated, termText, atomText, memberLine, line};
 ghost use Rattle.printing.specs.Printable.{alwaysBytes};
-ghost use Rattle.printing.specs.Put.{Puts};
+ghost use Rattle.covering.specs.Put.{Puts};
 use super::put::put;
 use super::put::put_decimal;
 use super::put::put_relation;
@@ -64,7 +64,7 @@ fn put_terms(text: &mut [u8], at: usize, member: &[u8], i: usize, w: usize) -> u
 
 // Puts the atom at i.
 fn put_atom(text: &mut [u8], at: usize, member: &[u8], i: usize) -> usize
-    requires { ⌜ (i + 5 ≤ length (now member))
+    requires { ⌜ (i + 7 ≤ length (now member))
         × T (isAtom stored (now member) i)
         × (at + length (atomText (atomAt stored (now member) i)) ≤ length (now text)) ⌝ }
     ensures { λ r. ⌜ Puts
@@ -77,13 +77,13 @@ fn put_atom(text: &mut [u8], at: usize, member: &[u8], i: usize) -> usize
     let open = put_relation(text, at, member[i]);
     let first = put(text, open, b"(");
     let rest = put_term(text, first, member[i + 1]);
-    let close = put_terms(text, rest, member, i + 2, 3);
+    let close = put_terms(text, rest, member, i + 2, 5);
     put(text, close, b")")
 }
 
 // Puts n atoms from i on, with a space before each.
 fn put_atoms(text: &mut [u8], at: usize, member: &[u8], i: usize, n: usize) -> usize
-    requires { ⌜ (i + n * 5 ≤ length (now member))
+    requires { ⌜ (i + n * 7 ≤ length (now member))
         × T (areAtoms stored (now member) i n)
         × (at + length (marked (ascii " ") atomText (atomsAt stored (now member) i n)) ≤ length (now text)) ⌝ }
     ensures { λ r. ⌜ Puts
@@ -98,7 +98,7 @@ fn put_atoms(text: &mut [u8], at: usize, member: &[u8], i: usize, n: usize) -> u
     }
     let space = put(text, at, b" ");
     let end = put_atom(text, space, member, i);
-    put_atoms(text, end, member, i + 5, n - 1)
+    put_atoms(text, end, member, i + 7, n - 1)
 }
 
 // Puts n atoms from i on, with a space between two.
@@ -116,7 +116,7 @@ fn put_all(text: &mut [u8], at: usize, output: &[u8], i: usize, n: usize) -> usi
         return at;
     }
     let rest = put_atom(text, at, output, i);
-    put_atoms(text, rest, output, i + 5, n - 1)
+    put_atoms(text, rest, output, i + 7, n - 1)
 }
 
 // Puts what stands for the atoms of a member without any, after its answer record if it has one.
@@ -160,10 +160,10 @@ pub fn put_members(
     n: usize,
     answers: u8,
 ) -> usize
-    requires { ⌜ WrittenAt answers (now output) i n
-        × (at + length (gather memberLine (membersFrom answers (now output) i n)) ≤ length (now text)) ⌝ }
+    requires { ⌜ WrittenAt newPlaces answers (now output) i n
+        × (at + length (gather memberLine (membersFrom newPlaces answers (now output) i n)) ≤ length (now text)) ⌝ }
     ensures { λ r. ⌜ Puts
-        (gather memberLine (membersFrom answers (now (output .entry)) i n))
+        (gather memberLine (membersFrom newPlaces answers (now (output .entry)) i n))
         (now (text .entry))
         at
         r
@@ -178,7 +178,7 @@ pub fn put_members(
         text,
         end,
         output,
-        i + cover::width(answers + count),
+        i + records::width(answers + count),
         n - 1,
         answers,
     )

@@ -4,7 +4,7 @@ ghost use mathlib.Core.List.{[], _∷_};
 ghost use lib.ListN.{length};
 ghost use Rattle.covering.specs.Record.{termOf};
 ghost use Rattle.printing.specs.Printed.{decimal, termText, relationText, figure};
-ghost use Rattle.printing.specs.Put.{Puts};
+ghost use Rattle.covering.specs.Put.{Puts};
 
 // Puts the bytes.
 pub fn put(text: &mut [u8], at: usize, bytes: &[u8]) -> usize

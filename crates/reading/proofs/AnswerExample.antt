@@ -6,7 +6,7 @@ use Prim.Native.Nat.{ℕ}
 use lib.ListN.{set}
 use Rattle.covering.specs.Record.{termOf, argsAt, atomAt, atomsAt}
 use Rattle.reading.specs.Word.{word}
-use Rattle.reading.specs.Header.{announced}
+use Rattle.reading.specs.Header.{formFor, announced}
 use Rattle.reading.specs.Refusals.{usedPlaces}
 use Rattle.reading.specs.Verdict.{inTable, offsetsRight, wrongPlaces, ruleRight, wrongRule, wrongPlace}
 use Rattle.reading.specs.Verdict.{wrongInAtom, wrongInAtoms, wrongInRules, wrongAnswer, wrongInQuestion}
@@ -23,7 +23,7 @@ asked =
     ++ (0 ∷ 0 ∷ 255 ∷ 255 ∷ 255 ∷ 1 ∷ 1 ∷ 0 ∷ 255 ∷ 255 ∷ [])
 
 -- the number and the place
-abbrev judged : List ℕ → ℕ × ℕ
+abbrev pub judged : List ℕ → ℕ × ℕ
 judged B = let r = verdict B in (r .number, r .place)
 
 -- with the byte at i changed to x
@@ -42,7 +42,7 @@ pub answers-judged :
     × (changed 21 1 ≡ (0, 0)) × (changed 21 2 ≡ (11, 21)) × (changed 22 3 ≡ (11, 22))
     -- the earliest of two; and 7 comes before
     × (judged (set (set asked 21 2) 22 3) ≡ (11, 21)) × (judged (set (set asked 21 2) 34 0) ≡ (7, 34))
-unfolding asked example small word inTable announced offsetsRight wrongPlaces ruleRight wrongRule wrongPlace
+unfolding asked example small word formFor inTable announced offsetsRight wrongPlaces ruleRight wrongRule wrongPlace
     wrongInAtom wrongInAtoms wrongInRules usedPlaces wrongAnswer wrongInQuestion wrongByte termOf argsAt atomAt
     atomsAt looseFrom looseVariable contents verdict
 answers-judged = (refl, refl, refl, refl, refl, refl, refl, refl, refl, refl, refl, refl)

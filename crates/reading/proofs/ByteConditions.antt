@@ -1,6 +1,6 @@
 -- The searches for 7 and 11 find the earliest place at which the condition of the number in `Refusals` applies. Assumes
 -- nothing.
-use mathlib.Core.Path.{_≡_, refl, sym, subst}
+use mathlib.Core.Path.{_≡_, refl, sym, ap, subst}
 use mathlib.Core.Bool.{not}
 use mathlib.Core.Logic.{_⊎_, inl, inr}
 use mathlib.Core.List.{List}
@@ -48,12 +48,17 @@ module _ (B : List ℕ) where
       s : ℕ
       s = ruleStart B (w .0)
 
+      parted : (j b : ℕ) → b ≤ j → j ≡ b + (j - b)
+      parted j b h = omega arith
+
       go : (j : ℕ) → j < bodyCount B (ruleStart B (w .0)) + headCount B (ruleStart B (w .0))
-          → AtomWrong B (bodyAt B (ruleStart B (w .0)) + atomSize * j) p
+          → AtomWrong B (bodyAt B (ruleStart B (w .0)) + atomSize B * j) p
           → (bodyCount B (ruleStart B (w .0)) ≤ j) ⊎ (j < bodyCount B (ruleStart B (w .0))) → ByteWrong B p
       go j l v (inl h) =
-          in-atom (bodyAt B (ruleStart B (w .0)) + atomSize * j)
-          (in-head (w .0) (j - bodyCount B (ruleStart B (w .0))) (w .1) (omega arith) (omega arith)) v
+          let b = bodyCount B (ruleStart B (w .0)) in
+          let e = ap (λ (n : ℕ). atomSize B * n) (parted j b h) in
+          in-atom (bodyAt B (ruleStart B (w .0)) + atomSize B * j)
+          (in-head (w .0) (j - b) (w .1) (omega arith) (omega arith)) v
       go j l v (inr h) = in-atom _ (in-body (w .0) j (w .1) h refl) v
   byte-to p (inr (inl w)) = in-answer (answer-wrong p (w .0) (w .1))
   byte-to p (inr (inr w)) = in-atom _ (in-question (w .0) (w .1) refl) (w .2)
@@ -64,7 +69,7 @@ module _ (B : List ℕ) where
       inl (k, l, (j, omega arith, subst (λ (a : ℕ). AtomWrong B a p) e v))
   atom-found p i (in-head k j l h e) v =
       let s = ruleStart B k in
-      let d : i ≡ bodyAt B s + atomSize * (bodyCount B s + j) = omega arith in
+      let d : i ≡ bodyAt B s + atomSize B * (bodyCount B s + j) = omega arith in
       inl (k, l, (bodyCount B s + j, omega arith, subst (λ (a : ℕ). AtomWrong B a p) d v))
   atom-found p i (in-question j h e) v = inr (inr (j, h, subst (λ (a : ℕ). AtomWrong B a p) e v))
 
@@ -80,32 +85,32 @@ module _ (B : List ℕ) where
       (earliest-else (bytes-earliest B (rulesStart B) (rules B)) (question-earliest B)
       (λ p q v w. omega (arith, bytes-to B (rulesStart B) (rules B) p v, question-from B q w)))
 
--- 11: a byte that passes is no variable or stands in an atom
-pub stands-in : (A : Question) (b : ℕ) → T (standsIn A b) → b < variables → var b ∈ terms A
-stands-in A b t l = go (or-cases (not (ltb b variables)) _ t)
+-- 11: a byte that passes is none of k variables or stands in an atom
+pub stands-in : (k : ℕ) (A : Question) (b : ℕ) → T (standsIn k A b) → b < k → var b ∈ terms A
+stands-in k A b t l = go (or-cases (not (ltb b k)) _ t)
   where
-    go : T (not (ltb b variables)) ⊎ T (any (eqTerm (var b)) (terms A)) → var b ∈ terms A
-    go (inl n) = absurd (clash (ltb b variables) (lt→ltb b variables l) n)
+    go : T (not (ltb b k)) ⊎ T (any (eqTerm (var b)) (terms A)) → var b ∈ terms A
+    go (inl n) = absurd (clash (ltb b k) (lt→ltb b k l) n)
     go (inr a) =
         let x = any-out (eqTerm (var b)) (terms A) a in
         subst (λ (t : Term). t ∈ terms A) (sym (eqTerm→eq (var b) (x .0) (x .2))) (x .1)
 
 -- and one that does not is a variable that stands in none
-loose-is : (A : Question) (b : ℕ) → (T (standsIn A b) → ⊥) → (b < variables) × (var b ∈ terms A → ⊥)
-loose-is A b f = (
-  go (le-or-lt variables b),
-  λ m. f (or-right (not (ltb b variables)) _ (any-in _ (terms A) m (eqTerm-refl (var b)))),
+loose-is : (k : ℕ) (A : Question) (b : ℕ) → (T (standsIn k A b) → ⊥) → (b < k) × (var b ∈ terms A → ⊥)
+loose-is k A b f = (
+  go (le-or-lt k b),
+  λ m. f (or-right (not (ltb b k)) _ (any-in _ (terms A) m (eqTerm-refl (var b)))),
 )
   where
-    go : (variables ≤ b) ⊎ (b < variables) → b < variables
-    go (inl l) = absurd (f (or-left (not (ltb b variables)) _ (false→T (ltb b variables) (le-ltb b variables l))))
+    go : (k ≤ b) ⊎ (b < k) → b < k
+    go (inl l) = absurd (f (or-left (not (ltb b k)) _ (false→T (ltb b k) (le-ltb b k l))))
     go (inr l) = l
 
 module _ (B : List ℕ) where
-  loose-to : (p : ℕ) → T (announced B) × LooseFrom B (questionAtoms B) (questionAt B + 1) atomPlaces p
+  loose-to : (p : ℕ) → T (announced B) × LooseFrom B (questionAtoms B) (questionAt B + 1) (atomPlaces B) p
       → LooseVariable B p
   loose-to p w =
-      let v = loose-is (questionAtoms B) (byte B p) (w .1 .2) in
+      let v = loose-is (variables B) (questionAtoms B) (byte B p) (w .1 .2) in
       record {
         announces = w .0;
         place = p - (questionAt B + 1);
@@ -116,13 +121,13 @@ module _ (B : List ℕ) where
       }
 
   loose-found : (p : ℕ) → LooseVariable B p
-      → T (announced B) × LooseFrom B (questionAtoms B) (questionAt B + 1) atomPlaces p
+      → T (announced B) × LooseFrom B (questionAtoms B) (questionAt B + 1) (atomPlaces B) p
   loose-found p w = (
     w .announces,
     (
       omega (arith, w .at),
       omega (arith, w .at, w .below),
-      λ t. w .nowhere (stands-in (questionAtoms B) (byte B p) t (w .variable)),
+      λ t. w .nowhere (stands-in (variables B) (questionAtoms B) (byte B p) t (w .variable)),
     ),
   )
 

@@ -1,7 +1,7 @@
 -- Each test of `Verdict` is passed exactly where the condition of its number in `Refusals` does not apply, and each
 -- search finds the earliest place at which it does. Assumes nothing.
-use mathlib.Core.Path.{_≡_, refl, sym, subst}
-use mathlib.Core.Bool.{Bool, true, false, not, _||_}
+use mathlib.Core.Path.{_≡_, refl, sym, _∙_, ap, subst}
+use mathlib.Core.Bool.{Bool, true, false, not}
 use mathlib.Core.Logic.{_⊎_, inl, inr, ⊎-elim}
 use mathlib.Core.List.{List}
 use mathlib.Core.Option.{none}
@@ -9,30 +9,35 @@ use Prim.Native.Nat.{ℕ, zero, suc, _+_, _-_, _≤_, _<_}
 use native.Mathlib.Omega.{arith}
 use lib.Dec.{T, eqb, leb, eqb→eq, leb→le}
 use lib.ListN.{length}
+use Rattle.covering.proofs.Tests.{either as one-of, T→true, true→T}
 use Rattle.covering.proofs.Tests.{decide, clash, fst-of, snd-of, or-left, or-right, or-cases, none≢some, le-or-lt}
+use Rattle.covering.specs.Record.{oldPlaces}
 use Rattle.reading.specs.Word.{byte}
+use Rattle.reading.specs.Header.{BookForm, Range, formOf, isNew, tenthWord, atomPlaces}
 use Rattle.reading.specs.Header.{headerSize, relations, constants, rules, atoms, allowed, relationsAt, rulesAt}
 use Rattle.reading.specs.Header.{questionAt, headerOf, inside, relationsRange, totalWord}
 use Rattle.reading.specs.Header.{constantsRange, rulesRange, atomsRange, allowedRange, placesRange, bodyRange}
 use Rattle.reading.specs.Header.{headRange, endWithout, endWith}
 use Rattle.reading.specs.Book.{bodyCount, headCount, ruleEnd, after, rulesStart, ruleStart}
 use Rattle.reading.specs.Refusals.{Short, OutsideTable, relations-out, constants-out, rules-out, atoms-out}
+use Rattle.reading.specs.Refusals.{tenth-not}
 use Rattle.reading.specs.Refusals.{allowed-out, OffsetWrong, relations-not, rules-not, question-below, total-not}
 use Rattle.reading.specs.Refusals.{length-not, PlacesWrong, RuleWrong, body-count, head-count, runs-past}
 use Rattle.reading.specs.Refusals.{end-before}
-use Rattle.reading.specs.Verdict.{unless, inTable, offsetsRight, wrongPlaces, ruleRight, wrongRule}
+use Rattle.reading.specs.Verdict.{totalRight, unless, inTable, offsetsRight, wrongPlaces, ruleRight, wrongRule}
 use Rattle.reading.proofs.Earliest.{Earliest, holds-nowhere, earliest-same, earliest-test}
 use Rattle.reading.proofs.Found.{PlacesFrom, places-earliest, RulesFrom, rules-earliest}
+use Rattle.reading.proofs.Forms.{is-new, is-old, new-places}
 use Rattle.reading.proofs.Ranges.{inside-not, outside, either, eq-not, le-not}
 
 module _ (B : List ℕ) where
   -- 2
-  pub short-earliest : Earliest (λ p. (p ≡ 0) × Short B) (unless (leb headerSize (length B)) 0)
+  pub short-earliest : Earliest (λ p. (p ≡ 0) × Short B) (unless (leb (headerSize B) (length B)) 0)
   short-earliest =
       earliest-same
       (λ p w. (w .0, le-not (w .1)))
-      (λ p w. (w .0, λ t. let l : headerSize ≤ length B = leb→le _ _ t in omega (arith, w .1)))
-      (earliest-test (λ p. leb headerSize (length B)) 0)
+      (λ p w. (w .0, λ t. let l : headerSize B ≤ length B = leb→le _ _ t in omega (arith, w .1)))
+      (earliest-test (λ p. leb (headerSize B) (length B)) 0)
 
   -- 3
   pub record InTable : Type 0 where
@@ -41,6 +46,8 @@ module _ (B : List ℕ) where
     pub rules-in : T (inside rulesRange (rules B))
     pub atoms-in : T (inside atomsRange (atoms B))
     pub allowed-in : T (inside allowedRange (allowed B))
+    -- the places that the header tells are those of the book's form
+    pub tenth-is : headerOf B .places ≡ atomPlaces B
 
   pub in-table : T (inTable (headerOf B)) → InTable
   unfolding inTable
@@ -48,13 +55,33 @@ module _ (B : List ℕ) where
       let t₂ = snd-of (inside relationsRange (relations B)) _ t in
       let t₃ = snd-of (inside constantsRange (constants B)) _ t₂ in
       let t₄ = snd-of (inside rulesRange (rules B)) _ t₃ in
+      let t₅ = snd-of (inside atomsRange (atoms B)) _ t₄ in
       record {
         relations-in = fst-of (inside relationsRange (relations B)) _ t;
         constants-in = fst-of (inside constantsRange (constants B)) _ t₂;
         rules-in = fst-of (inside rulesRange (rules B)) _ t₃;
         atoms-in = fst-of (inside atomsRange (atoms B)) _ t₄;
-        allowed-in = snd-of (inside atomsRange (atoms B)) _ t₄;
+        allowed-in = fst-of (inside allowedRange (allowed B)) _ t₅;
+        tenth-is = eqb→eq _ _ (snd-of (inside allowedRange (allowed B)) _ t₅);
       }
+
+  -- the places that a header tells: of a new book those of the tenth word, and of an old one the form's
+  told-new : isNew B ≡ true → headerOf B .places ≡ tenthWord B
+  told-new e = rw e
+
+  told-old : isNew B ≡ false → headerOf B .places ≡ atomPlaces B
+  told-old e =
+      let here : headerOf B .places ≡ oldPlaces = rw e in
+      here ∙ sym (ap (λ (f : BookForm). f .places) (is-old B e))
+
+  tenth-wrong : (T (eqb (headerOf B .places) (atomPlaces B)) → ⊥) → OutsideTable B
+  tenth-wrong f = go (one-of (isNew B))
+    where
+      go : (isNew B ≡ true) ⊎ (isNew B ≡ false) → OutsideTable B
+      go (inl e) =
+          tenth-not (true→T _ e)
+          (λ d. eq-not f (told-new e ∙ d ∙ sym (new-places B (is-new B e))))
+      go (inr e) = absurd (eq-not f (told-old e))
 
   table-not : T (inTable (headerOf B)) → OutsideTable B → ⊥
   table-not t (relations-out o) = inside-not relationsRange (in-table t .relations-in) o
@@ -62,6 +89,8 @@ module _ (B : List ℕ) where
   table-not t (rules-out o) = inside-not rulesRange (in-table t .rules-in) o
   table-not t (atoms-out o) = inside-not atomsRange (in-table t .atoms-in) o
   table-not t (allowed-out o) = inside-not allowedRange (in-table t .allowed-in) o
+  table-not t (tenth-not h f) =
+      f (sym (told-new (T→true _ h)) ∙ in-table t .tenth-is ∙ new-places B (is-new B (T→true _ h)))
 
   table-out : (T (inTable (headerOf B)) → ⊥) → OutsideTable B
   unfolding inTable
@@ -70,7 +99,7 @@ module _ (B : List ℕ) where
       (either (inside constantsRange (constants B)) _ (λ f. constants-out (outside constantsRange f))
       (either (inside rulesRange (rules B)) _ (λ f. rules-out (outside rulesRange f))
       (either (inside atomsRange (atoms B)) _ (λ f. atoms-out (outside atomsRange f))
-      (λ f. allowed-out (outside allowedRange f)))))
+      (either (inside allowedRange (allowed B)) _ (λ f. allowed-out (outside allowedRange f)) tenth-wrong))))
 
   pub table-earliest : Earliest (λ p. (p ≡ 0) × OutsideTable B) (unless (inTable (headerOf B)) 0)
   table-earliest =
@@ -80,47 +109,42 @@ module _ (B : List ℕ) where
   -- 4: the total is one of the two, without an answer record and with one
   abbrev pub OneTotal : Type 0
   OneTotal =
-      (totalWord B ≡ endWithout (questionAt B) (atoms B)) ⊎ (totalWord B ≡ endWith (questionAt B) (atoms B))
+      (totalWord B ≡ endWithout (formOf B) (questionAt B) (atoms B))
+      ⊎ (totalWord B ≡ endWith (formOf B) (questionAt B) (atoms B))
 
   pub record OffsetsRight : Type 0 where
-    pub relations-at : relationsAt B ≡ headerSize
-    pub rules-at : rulesAt B ≡ headerSize + relations B
+    pub relations-at : relationsAt B ≡ headerSize B
+    pub rules-at : rulesAt B ≡ headerSize B + relations B
     pub question-at : rulesAt B ≤ questionAt B
     pub total-is : OneTotal
     pub length-is : totalWord B ≡ length B
 
-  totals : Bool
-  totals =
-      eqb (totalWord B) (endWithout (questionAt B) (atoms B)) || eqb (totalWord B) (endWith (questionAt B) (atoms B))
-
-  one-total : T totals → OneTotal
-  unfolding totals
-  one-total t = go (or-cases (eqb (totalWord B) (endWithout (questionAt B) (atoms B))) _ t)
+  one-total : T (totalRight (headerOf B)) → OneTotal
+  one-total t = go (or-cases (eqb (totalWord B) (endWithout (formOf B) (questionAt B) (atoms B))) _ t)
     where
-      go : T (eqb (totalWord B) (endWithout (questionAt B) (atoms B)))
-          ⊎ T (eqb (totalWord B) (endWith (questionAt B) (atoms B))) → OneTotal
+      go : T (eqb (totalWord B) (endWithout (formOf B) (questionAt B) (atoms B)))
+          ⊎ T (eqb (totalWord B) (endWith (formOf B) (questionAt B) (atoms B))) → OneTotal
       go (inl h) = inl (eqb→eq _ _ h)
       go (inr h) = inr (eqb→eq _ _ h)
 
-  neither-total : (T totals → ⊥) → OffsetWrong B
-  unfolding totals
+  neither-total : (T (totalRight (headerOf B)) → ⊥) → OffsetWrong B
   neither-total f =
       total-not
-      (eq-not (λ t. f (or-left (eqb (totalWord B) (endWithout (questionAt B) (atoms B))) _ t)))
-      (eq-not (λ t. f (or-right (eqb (totalWord B) (endWithout (questionAt B) (atoms B))) _ t)))
+      (eq-not (λ t. f (or-left (eqb (totalWord B) (endWithout (formOf B) (questionAt B) (atoms B))) _ t)))
+      (eq-not (λ t. f (or-right (eqb (totalWord B) (endWithout (formOf B) (questionAt B) (atoms B))) _ t)))
 
   pub offsets-right : T (offsetsRight (headerOf B) (length B)) → OffsetsRight
-  unfolding offsetsRight totals
+  unfolding offsetsRight
   offsets-right t =
-      let t₂ = snd-of (eqb (relationsAt B) headerSize) _ t in
-      let t₃ = snd-of (eqb (rulesAt B) (headerSize + relations B)) _ t₂ in
+      let t₂ = snd-of (eqb (relationsAt B) (headerSize B)) _ t in
+      let t₃ = snd-of (eqb (rulesAt B) (headerSize B + relations B)) _ t₂ in
       let t₄ = snd-of (leb (rulesAt B) (questionAt B)) _ t₃ in
       record {
-        relations-at = eqb→eq _ _ (fst-of (eqb (relationsAt B) headerSize) _ t);
-        rules-at = eqb→eq _ _ (fst-of (eqb (rulesAt B) (headerSize + relations B)) _ t₂);
+        relations-at = eqb→eq _ _ (fst-of (eqb (relationsAt B) (headerSize B)) _ t);
+        rules-at = eqb→eq _ _ (fst-of (eqb (rulesAt B) (headerSize B + relations B)) _ t₂);
         question-at = leb→le _ _ (fst-of (leb (rulesAt B) (questionAt B)) _ t₃);
-        total-is = one-total (fst-of totals _ t₄);
-        length-is = eqb→eq _ _ (snd-of totals _ t₄);
+        total-is = one-total (fst-of (totalRight (headerOf B)) _ t₄);
+        length-is = eqb→eq _ _ (snd-of (totalRight (headerOf B)) _ t₄);
       }
 
   offsets-not : T (offsetsRight (headerOf B) (length B)) → OffsetWrong B → ⊥
@@ -131,12 +155,12 @@ module _ (B : List ℕ) where
   offsets-not t (length-not f) = f (offsets-right t .length-is)
 
   offsets-wrong : (T (offsetsRight (headerOf B) (length B)) → ⊥) → OffsetWrong B
-  unfolding offsetsRight totals
+  unfolding offsetsRight
   offsets-wrong =
-      either (eqb (relationsAt B) headerSize) _ (λ f. relations-not (eq-not f))
-      (either (eqb (rulesAt B) (headerSize + relations B)) _ (λ f. rules-not (eq-not f))
+      either (eqb (relationsAt B) (headerSize B)) _ (λ f. relations-not (eq-not f))
+      (either (eqb (rulesAt B) (headerSize B + relations B)) _ (λ f. rules-not (eq-not f))
       (either (leb (rulesAt B) (questionAt B)) _ (λ f. question-below (le-not f))
-      (either totals _ neither-total
+      (either (totalRight (headerOf B)) _ neither-total
       (λ f. length-not (eq-not f)))))
 
   pub offsets-earliest : Earliest (λ p. (p ≡ 0) × OffsetWrong B) (unless (offsetsRight (headerOf B) (length B)) 0)
@@ -145,24 +169,27 @@ module _ (B : List ℕ) where
       (earliest-test (λ p. offsetsRight (headerOf B) (length B)) 0)
 
   -- 5
-  pub relation-earliest : Earliest (PlacesWrong B) (wrongPlaces B headerSize (relations B))
-  relation-earliest = earliest-same to from (places-earliest B headerSize (relations B))
+  pub relation-earliest : Earliest (PlacesWrong B) (wrongPlaces B (headerSize B) (relations B))
+  relation-earliest = earliest-same to from (places-earliest B (headerSize B) (relations B))
     where
-      to : (p : ℕ) → PlacesFrom B headerSize (relations B) p → PlacesWrong B p
+      range : Range
+      range = placesRange (formOf B)
+
+      to : (p : ℕ) → PlacesFrom B (headerSize B) (relations B) p → PlacesWrong B p
       to p w =
-          let e : headerSize + (p - headerSize) ≡ p = omega arith in
+          let e : headerSize B + (p - (headerSize B)) ≡ p = omega arith in
           record {
-            relation = p - headerSize;
+            relation = p - (headerSize B);
             below = omega arith;
             at = sym e;
-            wrong = outside placesRange (subst (λ (q : ℕ). T (inside placesRange (byte B q)) → ⊥) (sym e) (w .2));
+            wrong = outside range (subst (λ (q : ℕ). T (inside range (byte B q)) → ⊥) (sym e) (w .2));
           }
 
-      from : (p : ℕ) → PlacesWrong B p → PlacesFrom B headerSize (relations B) p
+      from : (p : ℕ) → PlacesWrong B p → PlacesFrom B (headerSize B) (relations B) p
       from p w = (
         omega (arith, w .at),
         omega (arith, w .at, w .below),
-        λ t. inside-not placesRange (subst (λ (q : ℕ). T (inside placesRange (byte B q))) (w .at) t) (w .wrong),
+        λ t. inside-not range (subst (λ (q : ℕ). T (inside range (byte B q))) (w .at) t) (w .wrong),
       )
 
   -- 6

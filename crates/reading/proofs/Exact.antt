@@ -106,7 +106,7 @@ module _ (B : List ℕ) where
   at-start : {W : Type 0} (n : ℕ) → (W → ApplicableToBook B n 0) → (p : ℕ) → (p ≡ 0) × W → ApplicableToBook B n p
   at-start n f p w = subst (λ (q : ℕ). ApplicableToBook B n q) (sym (w .0)) (f (w .1))
 
-  two-earliest : Earliest (ApplicableToBook B 2) (unless (leb headerSize (length B)) 0)
+  two-earliest : Earliest (ApplicableToBook B 2) (unless (leb (headerSize B) (length B)) 0)
   two-earliest = earliest-same (at-start 2 two) (λ p a. says-two a) (short-earliest B)
 
   three-earliest : Earliest (ApplicableToBook B 3) (unless (inTable (headerOf B)) 0)
@@ -115,7 +115,7 @@ module _ (B : List ℕ) where
   four-earliest : Earliest (ApplicableToBook B 4) (unless (offsetsRight (headerOf B) (length B)) 0)
   four-earliest = earliest-same (at-start 4 four) (λ p a. says-four a) (offsets-earliest B)
 
-  five-earliest : Earliest (ApplicableToBook B 5) (wrongPlaces B headerSize (relations B))
+  five-earliest : Earliest (ApplicableToBook B 5) (wrongPlaces B (headerSize B) (relations B))
   five-earliest = earliest-same (λ p. five) (λ p a. says-five a) (relation-earliest B)
 
   six-earliest : Earliest (ApplicableToBook B 6) (wrongRule B (questionAt B) (rulesStart B) (rules B))

@@ -8,7 +8,7 @@ use Prim.Native.Nat.{ℕ, _<_, _≤_}
 use native.Mathlib.Omega.{arith}
 use lib.ListN.{set, take, drop}
 use Rattle.reading.specs.Word.{word}
-use Rattle.reading.specs.Header.{announced}
+use Rattle.reading.specs.Header.{formFor, announced}
 use Rattle.reading.specs.Book.{after}
 use Rattle.reading.specs.Refusals.{OffsetWrong, total-not, RuleWrong, end-before, AtomWrong}
 use Rattle.reading.specs.Verdict.{accepted, NoLater, verdict, contents, inTable, offsetsRight, wrongPlaces}
@@ -29,7 +29,7 @@ example =
     ++ (1 ∷ 0 ∷ 255 ∷ 255 ∷ 255 ∷ 2 ∷ 1 ∷ 0 ∷ 255 ∷ 255 ∷ [])
 
 pub example-sound : verdict example ≡ accepted
-unfolding example small word inTable offsetsRight wrongPlaces ruleRight wrongRule wrongPlace wrongInAtom
+unfolding example small word formFor inTable offsetsRight wrongPlaces ruleRight wrongRule wrongPlace wrongInAtom
     wrongInAtoms wrongInRules announced wrongInQuestion wrongByte looseVariable contents verdict
 example-sound = refl
 
@@ -38,15 +38,15 @@ abbrev changed : ℕ → ℕ → ℕ × ℕ
 changed i x = let r = verdict (set example i x) in (r .number, r .place)
 
 pub limits-hold :
-    -- 31 is a variable, 32 none; 128 is no constant where there are none
-    (changed 24 31 ≡ (0, 0)) × (changed 24 32 ≡ (7, 24)) × (changed 24 128 ≡ (7, 24))
+    -- 31 is a variable, 32 and 47 none; 128 is no constant where there are none
+    (changed 24 31 ≡ (0, 0)) × (changed 24 32 ≡ (7, 24)) × (changed 24 47 ≡ (7, 24)) × (changed 24 128 ≡ (7, 24))
     -- 65 relations, 33 rules, no explorations
     × (changed 0 65 ≡ (3, 0)) × (changed 4 33 ≡ (3, 0)) × (changed 8 0 ≡ (3, 0))
     -- a relation with no places and with five; a rule without body, which ends too soon, and one without head
     × (changed 18 0 ≡ (5, 18)) × (changed 18 5 ≡ (5, 18)) × (changed 21 0 ≡ (6, 33)) × (changed 22 0 ≡ (6, 21))
-unfolding example small word inTable offsetsRight wrongPlaces ruleRight wrongRule wrongPlace wrongInAtom
+unfolding example small word formFor inTable offsetsRight wrongPlaces ruleRight wrongRule wrongPlace wrongInAtom
     wrongInAtoms wrongInRules announced wrongInQuestion wrongByte looseVariable contents verdict
-limits-hold = (refl, refl, refl, refl, refl, refl, refl, refl, refl, refl)
+limits-hold = (refl, refl, refl, refl, refl, refl, refl, refl, refl, refl, refl)
 
 -- 38 and 43 are the question's atoms: of two wrong bytes the earlier is told, and it is a place of the atom at 38
 abbrev two-wrong : List ℕ
@@ -64,21 +64,21 @@ pub earliest-hold : (verdict two-wrong ≡ record { number = 7; place = 39 })
     × (verdict (set (set example 38 3) 39 32) ≡ record { number = 7; place = 38 })
     × (verdict (example ++ (0 ∷ [])) ≡ record { number = 4; place = 0 })
     × (verdict (take 17 example) ≡ record { number = 2; place = 0 }) × (verdict [] ≡ record { number = 2; place = 0 })
-unfolding example small word inTable offsetsRight wrongPlaces ruleRight wrongRule wrongPlace wrongInAtom
+unfolding example small word formFor inTable offsetsRight wrongPlaces ruleRight wrongRule wrongPlace wrongInAtom
     wrongInAtoms wrongInRules announced wrongInQuestion wrongByte looseVariable contents verdict
 earliest-hold = (refl, refl, refl, refl, refl, refl, refl, refl)
 
 pub place-applies : AtomWrong two-wrong 38 39
-unfolding example small word
+unfolding example small word formFor
 place-applies = AtomWrong.place (omega arith) 0 (omega arith) refl (λ t. t)
 
 pub end-applies : RuleWrong gap 38
-unfolding example small word after
+unfolding example small word formFor after
 end-applies = let below : 38 < 39 = omega arith in end-before refl below
 
 -- a total of 40 is the question's offset and N, not 5N, nor five more
 pub total-applies : OffsetWrong (set example 16 40)
-unfolding example small word
+unfolding example small word formFor
 total-applies =
     let without : _≡_ {A = ℕ} 40 48 → ⊥ = λ e. omega arith in
     let with-it : _≡_ {A = ℕ} 40 53 → ⊥ = λ e. omega arith in

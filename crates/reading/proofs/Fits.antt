@@ -1,6 +1,6 @@
--- The book that a sound book's bytes mean keeps to its own numbers: relations below P, variables below 32, constants
--- below C, one to four terms in each atom; bodies of one to four atoms, a question of one to eight with or without an
--- answer record, and a number of members allowed of at most 1,000. Assumes nothing.
+-- The book that a sound book's bytes mean keeps to its own numbers: relations below P, variables below 32 or 48,
+-- constants below C, one to four or six terms in each atom; bodies of at most four atoms, a question of one to eight
+-- with or without an answer record, and a number of members allowed of at most 1,000. Assumes nothing.
 use mathlib.Core.Path.{_≡_, sym, _∙_, ap, subst}
 use mathlib.Core.Bool.{_&&_}
 use mathlib.Core.Logic.{_⊎_, inl, inr}
@@ -12,24 +12,27 @@ use lib.ListN.{length, length-take, drop}
 use Rattle.covering.specs.Lists.{_∈_}
 use Rattle.covering.specs.Term.{Atom}
 use Rattle.covering.specs.Asking.{answerRelation, joined, NoRecord}
-use Rattle.covering.specs.Record.{Layout, stored, termOf, atomAt, atomsAt, isRelation, TermFits, AtomFits, Fits}
+use Rattle.covering.specs.Record.{Layout, holding, stored}
+use Rattle.covering.specs.Record.{termOf, atomAt, atomsAt, isRelation, TermFits, AtomFits, Fits}
 use Rattle.covering.proofs.Tests.{or-cases, fst-of, snd-of, le-or-lt, true→T}
 use Rattle.covering.proofs.Bytes.{term-var, term-con, relation-in}
 use Rattle.covering.proofs.Places.{relation-at, atom-each, atoms-each}
 use Rattle.covering.proofs.Lengths.{count-atoms}
 use Rattle.covering.specs.Rule.{Rule}
 use Rattle.reading.specs.Word.{byte}
+use Rattle.reading.specs.Header.{new, formOf, atomPlaces}
 use Rattle.reading.specs.Header.{constants, rules, atoms, questionAt, constantsRange, atomsRange, atomSize}
 use Rattle.reading.specs.Header.{variables, announced, answerRecords, questionAtomsAt, relations, headerSize}
 use Rattle.reading.specs.Book.{bodyCount, ruleAt, ruleStart, rulesStart, bookOf, layoutOf}
 use Rattle.reading.specs.Refusals.{usedAllowed}
 use Rattle.reading.specs.Verdict.{SoundBook}
 use Rattle.reading.proofs.SoundBook.{UsedRight, AtomRight, used-place, unused-place, used-places, BookRoom}
-use Rattle.reading.proofs.SoundBook.{own-room, stored-room, sound-header, sound-rule}
+use Rattle.reading.proofs.SoundBook.{own-room, holding-room, sound-header, sound-rule}
 use Rattle.reading.proofs.SoundQuestion.{sound-question, each-standing, is-answer, records-few}
 use Rattle.reading.proofs.Reading.{book-rules, book-atoms, book-allowed, rule-body, rule-head, rule-from}
 use Rattle.reading.proofs.QuestionRead.{joined-question, right-free}
 use Rattle.reading.proofs.Reading.{book-places}
+use Rattle.reading.proofs.Forms.{form-known, new-held}
 
 -- where a rule of the book starts
 pub rule-at : (B : List ℕ) (r : Rule) → r ∈ bookOf B .rules → (k : ℕ) × (k < rules B) × (r ≡ ruleAt B (ruleStart B k))
@@ -38,7 +41,7 @@ rule-at B r m = rule-from B (rulesStart B) (rules B) (subst (λ (l : List Rule).
 -- how many there are
 module _ (B : List ℕ) (s : SoundBook B) where
   body-count : (k : ℕ) → length (ruleAt B (ruleStart B k) .body) ≡ bodyCount B (ruleStart B k)
-  body-count k = ap length (rule-body B (ruleStart B k)) ∙ count-atoms stored B _ _
+  body-count k = ap length (rule-body B (ruleStart B k)) ∙ count-atoms (holding (atomPlaces B)) B _ _
 
   pub body-few : (r : Rule) → r ∈ bookOf B .rules → length (r .body) ≤ 4
   body-few r m =
@@ -47,7 +50,7 @@ module _ (B : List ℕ) (s : SoundBook B) where
       (omega (arith, body-count (k .0), sound-rule B s (k .0) (k .1) .few-body))
 
   question-count : length (bookOf B .question .atoms) ≡ atoms B
-  question-count = ap length (book-atoms B) ∙ count-atoms stored B (atoms B) (questionAtomsAt B)
+  question-count = ap length (book-atoms B) ∙ count-atoms (holding (atomPlaces B)) B (atoms B) (questionAtomsAt B)
 
   pub question-some : 1 ≤ length (bookOf B .question .atoms)
   question-some = omega (arith, question-count, sound-question B s .some-atom)
@@ -57,7 +60,9 @@ module _ (B : List ℕ) (s : SoundBook B) where
 
   -- its answer record counts as an atom of the whole
   pub joined-count : length (joined (bookOf B .question)) ≡ answerRecords B + atoms B
-  joined-count = ap length (joined-question B s) ∙ count-atoms stored B (answerRecords B + atoms B) (questionAt B)
+  joined-count =
+      ap length (joined-question B s)
+      ∙ count-atoms (holding (atomPlaces B)) B (answerRecords B + atoms B) (questionAt B)
 
   -- at most 64 relations
   pub places-few : length (bookOf B .places) ≤ 64
@@ -65,7 +70,7 @@ module _ (B : List ℕ) (s : SoundBook B) where
       omega (
         arith,
         ap length (book-places B),
-        length-take (relations B) (drop headerSize B),
+        length-take (relations B) (drop (headerSize B) B),
         sound-header B s .few-relations,
       )
 
@@ -74,13 +79,14 @@ module _ (B : List ℕ) (s : SoundBook B) where
 
 module _ (B : List ℕ) (L : Layout) (room : BookRoom B L) where
   -- the term in a used place
-  used-fits : (b : ℕ) → T (usedAllowed (constants B) b) → TermFits L (termOf b)
-  used-fits b t = go (or-cases (ltb b variables) (leb 128 b && ltb b (128 + constants B)) t)
+  used-fits : (b : ℕ) → T (usedAllowed (variables B) (constants B) b) → TermFits L (termOf b)
+  used-fits b t = go (or-cases (ltb b (variables B)) (leb 128 b && ltb b (128 + constants B)) t)
     where
-      go : T (ltb b variables) ⊎ T (leb 128 b && ltb b (128 + constants B)) → TermFits L (termOf b)
+      go : T (ltb b (variables B)) ⊎ T (leb 128 b && ltb b (128 + constants B)) → TermFits L (termOf b)
       go (inl h) =
-          let l : b < variables = ltb→lt _ _ h in
-          subst (TermFits L) (sym (term-var b (omega arith))) (omega (arith, room .variables-fit))
+          let l : b < variables B = ltb→lt _ _ h in
+          subst (TermFits L) (sym (term-var b (omega (arith, form-known B .few-variables))))
+          (omega (arith, room .variables-fit))
       go (inr h) =
           let l : 128 ≤ b = leb→le _ _ (fst-of (leb 128 b) (ltb b (128 + constants B)) h) in
           let m : b < 128 + constants B = ltb→lt _ _ (snd-of (leb 128 b) (ltb b (128 + constants B)) h) in
@@ -88,17 +94,17 @@ module _ (B : List ℕ) (L : Layout) (room : BookRoom B L) where
 
   -- an atom of a relation of the layout, with u places used
   atom-fits : constants B ≤ constantsRange .most → {i u : ℕ} → UsedRight B i u → T (isRelation L (byte B i))
-      → AtomFits L (atomAt stored B i)
+      → AtomFits L (atomAt (holding (atomPlaces B)) B i)
   atom-fits c {i} {u} a r =
       let n = used-places B a c in
       record {
-        relation = subst (λ (b : ℕ). T (isRelation L b)) (sym (relation-at stored B i)) r;
+        relation = subst (λ (b : ℕ). T (isRelation L b)) (sym (relation-at (holding (atomPlaces B)) B i)) r;
         some-place = omega (arith, n, a .some-place);
         places = omega (arith, n, a .few-places, room .places-are);
-        terms = atom-each stored B (TermFits L) i (λ w l f. each w l f (le-or-lt u w));
+        terms = atom-each (holding (atomPlaces B)) B (TermFits L) i (λ w l f. each w l f (le-or-lt u w));
       }
     where
-      each : (w : ℕ) → w < stored .places → (byte B (i + 1 + w) ≡ 255 → ⊥) → (u ≤ w) ⊎ (w < u)
+      each : (w : ℕ) → w < atomPlaces B → (byte B (i + 1 + w) ≡ 255 → ⊥) → (u ≤ w) ⊎ (w < u)
           → TermFits L (termOf (byte B (i + 1 + w)))
       each w l f (inl h) = absurd (f (unused-place B a w h l))
       each w l f (inr h) = used-fits (byte B (i + 1 + w)) (used-place B a w h)
@@ -107,24 +113,24 @@ module _ (B : List ℕ) (L : Layout) (room : BookRoom B L) where
     few : constants B ≤ constantsRange .most
     few = sound-header B s .few-constants
 
-    right-fits : {i : ℕ} → AtomRight B i → AtomFits L (atomAt stored B i)
+    right-fits : {i : ℕ} → AtomRight B i → AtomFits L (atomAt (holding (atomPlaces B)) B i)
     right-fits {i} a =
         atom-fits few (a .used) (true→T _ (relation-in L (byte B i) (omega (arith, a .relation, room .relations-fit))))
 
-    all-fit : (i n : ℕ) → ((j : ℕ) → j < n → AtomRight B (i + atomSize * j))
-        → (a : Atom) → a ∈ atomsAt stored B i n → AtomFits L a
-    all-fit i n f = atoms-each stored B (AtomFits L) i n (λ j l. right-fits (f j l))
+    all-fit : (i n : ℕ) → ((j : ℕ) → j < n → AtomRight B (i + atomSize B * j))
+        → (a : Atom) → a ∈ atomsAt (holding (atomPlaces B)) B i n → AtomFits L a
+    all-fit i n f = atoms-each (holding (atomPlaces B)) B (AtomFits L) i n (λ j l. right-fits (f j l))
 
     module _ (answers : T (announced B) → T (L .answers)) where
       -- every atom of the question, and its answer record
       pub question-fits : (a : Atom) → a ∈ joined (bookOf B .question) → AtomFits L a
       question-fits a m =
-          atoms-each stored B (AtomFits L) (questionAt B) (answerRecords B + atoms B)
-          (each-standing B (λ i. AtomFits L (atomAt stored B i)) answer-fits
+          atoms-each (holding (atomPlaces B)) B (AtomFits L) (questionAt B) (answerRecords B + atoms B)
+          (each-standing B (λ i. AtomFits L (atomAt (holding (atomPlaces B)) B i)) answer-fits
           (λ j l. right-fits (sound-question B s .each j l)))
           a (subst (λ (A : List Atom). a ∈ A) (joined-question B s) m)
         where
-          answer-fits : T (announced B) → AtomFits L (atomAt stored B (questionAt B))
+          answer-fits : T (announced B) → AtomFits L (atomAt (holding (atomPlaces B)) B (questionAt B))
           answer-fits t =
               let r = sound-question B s .answer t in
               atom-fits few (r .used) (is-answer L _ (answers t) (r .relation))
@@ -158,9 +164,10 @@ rules-free B s r m = subst (λ (x : Rule). NoRecord (x .body) × NoRecord (x .he
     k : (k : ℕ) × (k < rules B) × (r ≡ ruleAt B (ruleStart B k))
     k = rule-at B r m
 
-    all-free : (i n : ℕ) → ((j : ℕ) → j < n → AtomRight B (i + atomSize * j)) → NoRecord (atomsAt stored B i n)
+    all-free : (i n : ℕ) → ((j : ℕ) → j < n → AtomRight B (i + atomSize B * j))
+        → NoRecord (atomsAt (holding (atomPlaces B)) B i n)
     all-free i n f =
-        atoms-each stored B (λ (x : Atom). ¬ (x .rel ≡ answerRelation)) i n
+        atoms-each (holding (atomPlaces B)) B (λ (x : Atom). ¬ (x .rel ≡ answerRelation)) i n
         (λ j l. right-free B (sound-header B s .few-relations) _ (f j l))
 
     body : NoRecord (ruleAt B (ruleStart B (k .0)) .body)
@@ -169,10 +176,15 @@ rules-free B s r m = subst (λ (x : Rule). NoRecord (x .body) × NoRecord (x .he
     head : NoRecord (ruleAt B (ruleStart B (k .0)) .head)
     head = rw (rule-head B (ruleStart B (k .0))) (all-free _ _ (sound-rule B s (k .0) (k .1) .head))
 
--- the question fits the book's own layout, and the one in which all bytes are kept
+-- the question fits the book's own layout, and the one in which its bytes are kept: of a new book, that of all bytes
+-- inside
 module _ (B : List ℕ) (s : SoundBook B) where
   pub question-own : Fits (layoutOf B) (joined (bookOf B .question))
   question-own = question-record B (layoutOf B) (own-room B) s (λ t. t) (omega arith)
 
-  pub question-stored : Fits stored (joined (bookOf B .question))
-  question-stored = question-record B stored (stored-room B s) s (λ t. tt) (omega (arith, records-few B))
+  pub question-holding : Fits (holding (atomPlaces B)) (joined (bookOf B .question))
+  question-holding =
+      question-record B (holding (atomPlaces B)) (holding-room B s) s (λ t. tt) (omega (arith, records-few B))
+
+  pub question-stored : formOf B ≡ new → Fits stored (joined (bookOf B .question))
+  question-stored e = subst (λ (L : Layout). Fits L (joined (bookOf B .question))) (new-held B e) question-holding

@@ -8,6 +8,7 @@ use Prim.Native.Nat.{ℕ, zero, suc, _+_, _*_, _≤_, _<_}
 use native.Mathlib.Omega.{arith}
 use lib.Dec.{T, ltb, leb, ltb→lt, nltb→le}
 use Rattle.reading.specs.Word.{byte}
+use Rattle.reading.specs.Header.{formOf, variables}
 use Rattle.reading.specs.Header.{relations, constants, inside, placesRange, atomSize, atomPlaces}
 use Rattle.reading.specs.Book.{bodyCount, headCount, bodyAt, ruleEnd, after, placesOf}
 use Rattle.reading.specs.Refusals.{placeAllowed, AtomWrong, relation, place}
@@ -16,16 +17,17 @@ use Rattle.reading.specs.Verdict.{wrongInRules}
 use Rattle.reading.proofs.Earliest.{Earliest, nowhere, first, earliest-same, earliest-test, earliest-else}
 use Rattle.reading.proofs.Earliest.{here-or-later, Failing, earliest-each}
 use Rattle.reading.proofs.After.{after-late}
+use Rattle.reading.proofs.Forms.{atoms-within}
 
 module _ (B : List ℕ) where
   -- 5: a byte among n from i on
   abbrev pub PlacesFrom : ℕ → ℕ → ℕ → Type 0
-  PlacesFrom = Failing (λ p. inside placesRange (byte B p))
+  PlacesFrom = Failing (λ p. inside (placesRange (formOf B)) (byte B p))
 
   pub places-earliest : (i n : ℕ) → Earliest (PlacesFrom i n) (wrongPlaces B i n)
   unfolding wrongPlaces
   places-earliest =
-      earliest-each (λ p. inside placesRange (byte B p)) (wrongPlaces B) (λ i. refl) (λ i n. refl)
+      earliest-each (λ p. inside (placesRange (formOf B)) (byte B p)) (wrongPlaces B) (λ i. refl) (λ i n. refl)
 
   -- 6: a rule among n from s on, or their end
   abbrev pub RulesFrom : ℕ → ℕ → ℕ → ℕ → Type 0
@@ -65,7 +67,8 @@ module _ (B : List ℕ) where
   -- 7: one of n places, from place w on
   abbrev pub PlaceFrom : ℕ → ℕ → ℕ → ℕ → ℕ → Type 0
   PlaceFrom u i w n p =
-      (v : ℕ) × (w ≤ v) × (v < w + n) × (p ≡ i + v) × (T (placeAllowed (constants B) (ltb v u) (byte B p)) → ⊥)
+      (v : ℕ) × (w ≤ v) × (v < w + n) × (p ≡ i + v)
+      × (T (placeAllowed (variables B) (constants B) (ltb v u) (byte B p)) → ⊥)
 
   pub place-earliest : (u i w n : ℕ) → Earliest (PlaceFrom u i w n) (wrongPlace B u i w n)
   unfolding wrongPlace
@@ -75,7 +78,7 @@ module _ (B : List ℕ) where
       (earliest-else (earliest-test right (i + w)) (place-earliest u i (w + 1) n) (λ p q v r. later p q v r))
     where
       right : ℕ → Bool
-      right p = placeAllowed (constants B) (ltb w u) (byte B p)
+      right p = placeAllowed (variables B) (constants B) (ltb w u) (byte B p)
 
       later : (p q : ℕ) → (p ≡ i + w) × (T (right p) → ⊥) → PlaceFrom u i (w + 1) n q → p ≤ q
       later p q v r = omega (arith, r .1, r .3)
@@ -89,7 +92,7 @@ module _ (B : List ℕ) where
       part p r (inl e) =
           inl (
             r .3 ∙ ap (λ (v : ℕ). i + v) e,
-            subst (λ (v : ℕ). T (placeAllowed (constants B) (ltb v u) (byte B p)) → ⊥) e (r .4),
+            subst (λ (v : ℕ). T (placeAllowed (variables B) (constants B) (ltb v u) (byte B p)) → ⊥) e (r .4),
           )
       part p r (inr l) = inr (r .0, l, omega (arith, r .2), r .3, r .4)
 
@@ -98,12 +101,12 @@ module _ (B : List ℕ) where
   unfolding wrongInAtom
   atom-earliest i = go (ltb (byte B i) (relations B)) (λ t. ltb→lt _ _ t) (λ t. nltb→le _ _ t)
     where
-      join : byte B i < relations B → (p : ℕ) → PlaceFrom (placesOf B (byte B i)) (i + 1) 0 atomPlaces p
+      join : byte B i < relations B → (p : ℕ) → PlaceFrom (placesOf B (byte B i)) (i + 1) 0 (atomPlaces B) p
           → AtomWrong B i p
       join l p r = place l (r .0) (omega (arith, r .2)) (r .3) (r .4)
 
       part : byte B i < relations B → (p : ℕ) → AtomWrong B i p
-          → PlaceFrom (placesOf B (byte B i)) (i + 1) 0 atomPlaces p
+          → PlaceFrom (placesOf B (byte B i)) (i + 1) 0 (atomPlaces B) p
       part l p (relation h e) = absurd (omega arith)
       part l p (place h w m e f) = (w, omega arith, omega arith, e, f)
 
@@ -112,33 +115,33 @@ module _ (B : List ℕ) where
       least l q (place h w m e f) = omega arith
 
       go : (b : Bool) → (T b → byte B i < relations B) → (T (not b) → relations B ≤ byte B i)
-          → Earliest (AtomWrong B i) (cond b (wrongPlace B (placesOf B (byte B i)) (i + 1) 0 atomPlaces) (some i))
+          → Earliest (AtomWrong B i) (cond b (wrongPlace B (placesOf B (byte B i)) (i + 1) 0 (atomPlaces B)) (some i))
       go true lo hi =
-          earliest-same (join (lo tt)) (part (lo tt)) (place-earliest (placesOf B (byte B i)) (i + 1) 0 atomPlaces)
+          earliest-same (join (lo tt)) (part (lo tt)) (place-earliest (placesOf B (byte B i)) (i + 1) 0 (atomPlaces B))
       go false lo hi = first (relation (hi tt) refl) (least (hi tt))
 
   pub atom-from : (i p : ℕ) → AtomWrong B i p → i ≤ p
   atom-from i p (relation h e) = omega arith
   atom-from i p (place h w m e f) = omega arith
 
-  pub atom-to : (i p : ℕ) → AtomWrong B i p → p < i + atomSize
+  pub atom-to : (i p : ℕ) → AtomWrong B i p → p < i + atomSize B
   atom-to i p (relation h e) = omega arith
   atom-to i p (place h w m e f) = omega arith
 
   -- a byte of n atoms from i on
   abbrev pub AtomsFrom : ℕ → ℕ → ℕ → Type 0
-  AtomsFrom i n p = (j : ℕ) × (j < n) × AtomWrong B (i + atomSize * j) p
+  AtomsFrom i n p = (j : ℕ) × (j < n) × AtomWrong B (i + atomSize B * j) p
 
   pub atoms-from : (i n p : ℕ) → AtomsFrom i n p → i ≤ p
-  atoms-from i n p r = omega (arith, atom-from (i + atomSize * r .0) p (r .2))
+  atoms-from i n p r = omega (arith, atom-from (i + atomSize B * r .0) p (r .2))
 
-  pub atoms-to : (i n p : ℕ) → AtomsFrom i n p → p < i + atomSize * n
-  atoms-to i n p r = omega (arith, r .1, atom-to (i + atomSize * r .0) p (r .2))
+  pub atoms-to : (i n p : ℕ) → AtomsFrom i n p → p < i + atomSize B * n
+  atoms-to i n p r = omega (arith, atoms-within (atomSize B) (r .1), atom-to (i + atomSize B * r .0) p (r .2))
 
-  first-atom : (i : ℕ) → i + atomSize * 0 ≡ i
+  first-atom : (i : ℕ) → i + atomSize B * 0 ≡ i
   first-atom i = omega arith
 
-  next-atom : (i j : ℕ) → i + atomSize * suc j ≡ i + atomSize + atomSize * j
+  next-atom : (i j : ℕ) → i + atomSize B * suc j ≡ i + atomSize B + atomSize B * j
   next-atom i j = omega arith
 
   pub atoms-earliest : (i n : ℕ) → Earliest (AtomsFrom i n) (wrongInAtoms B i n)
@@ -146,17 +149,18 @@ module _ (B : List ℕ) where
   atoms-earliest i zero = nowhere (λ p r. let l = r .1 in omega arith)
   atoms-earliest i (suc n) =
       earliest-same join (λ p r. part p (r .0) (r .1) (r .2))
-      (earliest-else (atom-earliest i) (atoms-earliest (i + atomSize) n) later)
+      (earliest-else (atom-earliest i) (atoms-earliest (i + atomSize B) n) later)
     where
-      later : (p q : ℕ) → AtomWrong B i p → AtomsFrom (i + atomSize) n q → p ≤ q
-      later p q v r = omega (arith, atom-to i p v, atoms-from (i + atomSize) n q r)
+      later : (p q : ℕ) → AtomWrong B i p → AtomsFrom (i + atomSize B) n q → p ≤ q
+      later p q v r = omega (arith, atom-to i p v, atoms-from (i + atomSize B) n q r)
 
-      join : (p : ℕ) → AtomWrong B i p ⊎ AtomsFrom (i + atomSize) n p → AtomsFrom i (suc n) p
+      join : (p : ℕ) → AtomWrong B i p ⊎ AtomsFrom (i + atomSize B) n p → AtomsFrom i (suc n) p
       join p (inl v) = (0, omega arith, subst (λ (k : ℕ). AtomWrong B k p) (sym (first-atom i)) v)
       join p (inr r) =
           (suc (r .0), omega (arith, r .1), subst (λ (k : ℕ). AtomWrong B k p) (sym (next-atom i (r .0))) (r .2))
 
-      part : (p j : ℕ) → j < suc n → AtomWrong B (i + atomSize * j) p → AtomWrong B i p ⊎ AtomsFrom (i + atomSize) n p
+      part : (p j : ℕ) → j < suc n → AtomWrong B (i + atomSize B * j) p
+          → AtomWrong B i p ⊎ AtomsFrom (i + atomSize B) n p
       part p zero l v = inl (subst (λ (k : ℕ). AtomWrong B k p) (first-atom i) v)
       part p (suc j) l v = inr (j, omega arith, subst (λ (k : ℕ). AtomWrong B k p) (next-atom i j) v)
 

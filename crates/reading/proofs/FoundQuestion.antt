@@ -1,14 +1,15 @@
 -- The same of the searches in the question: its answer record comes before its atoms. Assumes nothing.
-use mathlib.Core.Path.{_≡_, refl}
+use mathlib.Core.Path.{_≡_, refl, ap}
 use mathlib.Core.Logic.{_⊎_, inl, inr}
 use mathlib.Core.List.{List}
-use Prim.Native.Nat.{ℕ, _+_, _≤_, _<_}
+use Prim.Native.Nat.{ℕ, _+_, _*_, _≤_, _<_}
 use native.Mathlib.Omega.{arith}
 use lib.Dec.{T, eqb}
 use Rattle.covering.specs.Term.{Question}
 use Rattle.covering.specs.Asking.{answerRelation}
 use Rattle.covering.proofs.Tests.{cond-yes}
 use Rattle.reading.specs.Word.{byte}
+use Rattle.reading.specs.Header.{variables}
 use Rattle.reading.specs.Header.{atoms, questionAt, atomSize, atomPlaces, announced, answerRecords}
 use Rattle.reading.specs.Header.{questionAtomsAt}
 use Rattle.reading.specs.Book.{questionAtoms}
@@ -23,22 +24,26 @@ module _ (B : List ℕ) where
   pub records-one : T (announced B) → answerRecords B ≡ 1
   records-one t = cond-yes (announced B) 1 0 t
 
+  -- and the question's atoms start after it
+  pub atoms-after : T (announced B) → questionAtomsAt B ≡ questionAt B + atomSize B
+  atoms-after t = let e = ap (λ (n : ℕ). atomSize B * n) (records-one t) in omega arith
+
   -- 7: a byte of the answer record at i
   abbrev pub AnswerFrom : ℕ → ℕ → Type 0
   AnswerFrom i p =
-      ((p ≡ i) × (T (eqb (byte B p) answerRelation) → ⊥)) ⊎ PlaceFrom B (answerPlaces B i) (i + 1) 0 atomPlaces p
+      ((p ≡ i) × (T (eqb (byte B p) answerRelation) → ⊥)) ⊎ PlaceFrom B (answerPlaces B i) (i + 1) 0 (atomPlaces B) p
 
   answer-earliest : (i : ℕ) → Earliest (AnswerFrom i) (wrongAnswer B i)
   unfolding wrongAnswer
   answer-earliest i =
       earliest-else (earliest-test (λ p. eqb (byte B p) answerRelation) i)
-      (place-earliest B (answerPlaces B i) (i + 1) 0 atomPlaces) (λ p q v w. omega (arith, w .1, w .3))
+      (place-earliest B (answerPlaces B i) (i + 1) 0 (atomPlaces B)) (λ p q v w. omega (arith, w .1, w .3))
 
   answer-from : (i p : ℕ) → AnswerFrom i p → i ≤ p
   answer-from i p (inl v) = omega arith
   answer-from i p (inr w) = omega (arith, w .3)
 
-  answer-to : (i p : ℕ) → AnswerFrom i p → p < i + atomSize
+  answer-to : (i p : ℕ) → AnswerFrom i p → p < i + atomSize B
   answer-to i p (inl v) = omega arith
   answer-to i p (inr w) = omega (arith, w .2, w .3)
 
@@ -61,20 +66,20 @@ module _ (B : List ℕ) where
       later p q v w =
           omega (
             arith,
-            records-one (v .0),
+            atoms-after (v .0),
             answer-to (questionAt B) p (v .1),
             atoms-from B (questionAtomsAt B) (atoms B) q w,
           )
 
   -- 11: a variable of the answer record
   abbrev pub LooseFrom : Question → ℕ → ℕ → ℕ → Type 0
-  LooseFrom A = Failing (λ p. standsIn A (byte B p))
+  LooseFrom A = Failing (λ p. standsIn (variables B) A (byte B p))
 
   loose-from : (A : Question) (i n : ℕ) → Earliest (LooseFrom A i n) (looseFrom B A i n)
   unfolding looseFrom
-  loose-from A = earliest-each (λ p. standsIn A (byte B p)) (looseFrom B A) (λ i. refl) (λ i n. refl)
+  loose-from A = earliest-each (λ p. standsIn (variables B) A (byte B p)) (looseFrom B A) (λ i. refl) (λ i n. refl)
 
-  pub loose-earliest : Earliest (λ p. T (announced B) × LooseFrom (questionAtoms B) (questionAt B + 1) atomPlaces p)
+  pub loose-earliest : Earliest (λ p. T (announced B) × LooseFrom (questionAtoms B) (questionAt B + 1) (atomPlaces B) p)
       (looseVariable B)
   unfolding looseVariable
-  loose-earliest = earliest-where (announced B) (loose-from (questionAtoms B) (questionAt B + 1) atomPlaces)
+  loose-earliest = earliest-where (announced B) (loose-from (questionAtoms B) (questionAt B + 1) (atomPlaces B))

@@ -8,12 +8,14 @@ use native.Mathlib.Nat.{sub-zero, sub-eq-zero-of-le}
 use native.Mathlib.Omega.{arith}
 use lib.ListN.{drop, take}
 use Rattle.covering.specs.Lists.{_∈_}
-use Rattle.covering.specs.Record.{stored, argsAt, atomsAt}
+use Rattle.covering.specs.Record.{Layout, holding, stored, argsAt, atomsAt}
 use Rattle.covering.specs.Rule.{Rule}
 use Rattle.reading.specs.Word.{byte, word}
+use Rattle.reading.specs.Header.{new, formOf}
 use Rattle.reading.specs.Header.{rules, allowed, questionAt, atomPlaces, announced, relations, headerSize}
 use Rattle.reading.specs.Book.{bodyCount, headCount, bodyAt, headAt, ruleEnd, ruleAt, rulesFrom, after}
 use Rattle.reading.specs.Book.{rulesStart, ruleStart, questionAtoms, questionIn, bookOf}
+use Rattle.reading.proofs.Forms.{new-held}
 use Rattle.reading.proofs.After.{after-next}
 use Rattle.covering.proofs.Tests.{one-more}
 
@@ -32,7 +34,7 @@ module _ (B : List ℕ) where
   unfolding bookOf
   book-question = refl
 
-  pub book-answer : bookOf B .question .answer ≡ cond (announced B) (argsAt B (questionAt B + 1) atomPlaces) []
+  pub book-answer : bookOf B .question .answer ≡ cond (announced B) (argsAt B (questionAt B + 1) (atomPlaces B)) []
   unfolding bookOf questionIn
   book-answer = refl
 
@@ -40,7 +42,7 @@ module _ (B : List ℕ) where
   unfolding bookOf questionIn
   book-atoms = refl
 
-  pub book-places : bookOf B .places ≡ take (relations B) (drop headerSize B)
+  pub book-places : bookOf B .places ≡ take (relations B) (drop (headerSize B) B)
   unfolding bookOf
   book-places = refl
 
@@ -52,17 +54,31 @@ module _ (B : List ℕ) where
   pub rule-is : (s : ℕ)
       → ruleAt B s
       ≡ record {
-        body = atomsAt stored B (bodyAt B s) (bodyCount B s);
-        head = atomsAt stored B (headAt B s) (headCount B s);
+        body = atomsAt (holding (atomPlaces B)) B (bodyAt B s) (bodyCount B s);
+        head = atomsAt (holding (atomPlaces B)) B (headAt B s) (headCount B s);
       }
   unfolding ruleAt
   rule-is s = refl
 
-  pub rule-body : (s : ℕ) → ruleAt B s .body ≡ atomsAt stored B (bodyAt B s) (bodyCount B s)
+  -- of a book in the new form, in the layout of all the bytes inside
+  pub rule-stored : formOf B ≡ new → (s : ℕ)
+      → ruleAt B s
+      ≡ record {
+        body = atomsAt stored B (bodyAt B s) (bodyCount B s);
+        head = atomsAt stored B (headAt B s) (headCount B s);
+      }
+  rule-stored e s =
+      rule-is s
+      ∙ ap (λ (L : Layout). record {
+        body = atomsAt L B (bodyAt B s) (bodyCount B s);
+        head = atomsAt L B (headAt B s) (headCount B s);
+      }) (new-held B e)
+
+  pub rule-body : (s : ℕ) → ruleAt B s .body ≡ atomsAt (holding (atomPlaces B)) B (bodyAt B s) (bodyCount B s)
   unfolding ruleAt
   rule-body s = refl
 
-  pub rule-head : (s : ℕ) → ruleAt B s .head ≡ atomsAt stored B (headAt B s) (headCount B s)
+  pub rule-head : (s : ℕ) → ruleAt B s .head ≡ atomsAt (holding (atomPlaces B)) B (headAt B s) (headCount B s)
   unfolding ruleAt
   rule-head s = refl
 

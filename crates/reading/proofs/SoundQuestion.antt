@@ -4,16 +4,17 @@ use mathlib.Core.Path.{_≡_, refl, sym, ap, subst}
 use mathlib.Core.Bool.{Bool, true, false, not, cond}
 use mathlib.Core.Logic.{_⊎_, inl, inr}
 use mathlib.Core.List.{List}
-use Prim.Native.Nat.{ℕ, zero, suc, _+_, _*_, _≤_, _<_}
+use Prim.Native.Nat.{ℕ, zero, suc, _+_, _*_, _-_, _≤_, _<_}
 use native.Mathlib.Omega.{arith}
 use borrow.Author.Tests.{eq-eqb}
 use lib.Dec.{T, eqb, ltb, eqb→eq}
 use lib.ListN.{length}
-use Rattle.covering.specs.Asking.{answerRelation}
+use Rattle.covering.specs.Asking.{answerRelation, answerMost}
 use Rattle.covering.specs.Record.{Layout, size, isAtom, isRelation, areAtoms}
 use Rattle.covering.proofs.Tests.{decide, clash, both, or-right, true→T, cond-no}
 use Rattle.covering.proofs.Places.{are-atoms}
 use Rattle.reading.specs.Word.{byte}
+use Rattle.reading.specs.Header.{variables}
 use Rattle.reading.specs.Header.{constants, atoms, questionAt, atomsRange, atomSize, atomPlaces, announced}
 use Rattle.reading.specs.Header.{answerRecords, questionAtomsAt}
 use Rattle.reading.specs.Book.{questionAtoms}
@@ -23,6 +24,7 @@ use Rattle.reading.proofs.Earliest.{Earliest, holds-nowhere}
 use Rattle.reading.proofs.FoundQuestion.{QuestionFrom, question-earliest, LooseFrom, loose-earliest, records-one}
 use Rattle.reading.proofs.SoundBook.{passed, UsedRight, AtomRight, BookRoom, used-atom, right-atom, not-wrong}
 use Rattle.reading.proofs.SoundBook.{sound-header}
+use Rattle.reading.proofs.Forms.{form-known}
 
 -- an answer record at i with no wrong byte
 pub record AnswerRight (B : List ℕ) (i : ℕ) : Type 0 where
@@ -33,12 +35,12 @@ pub record AnswerRight (B : List ℕ) (i : ℕ) : Type 0 where
 pub record SoundQuestion (B : List ℕ) : Type 0 where
   pub some-atom : 1 ≤ atoms B
   pub few-atoms : atoms B ≤ atomsRange .most
-  pub ends : questionAt B + atomSize * (answerRecords B + atoms B) ≡ length B
+  pub ends : questionAt B + atomSize B * (answerRecords B + atoms B) ≡ length B
   pub answer : T (announced B) → AnswerRight B (questionAt B)
-  pub each : (j : ℕ) → j < atoms B → AtomRight B (questionAtomsAt B + atomSize * j)
+  pub each : (j : ℕ) → j < atoms B → AtomRight B (questionAtomsAt B + atomSize B * j)
   -- "an answer variable in no question atom" is refused
-  pub stands : T (announced B) → (w : ℕ) → w < atomPlaces
-      → T (standsIn (questionAtoms B) (byte B (questionAt B + 1 + w)))
+  pub stands : T (announced B) → (w : ℕ) → w < atomPlaces B
+      → T (standsIn (variables B) (questionAtoms B) (byte B (questionAt B + 1 + w)))
 
 -- its relation is one of a layout with answer records
 pub is-answer : (L : Layout) (b : ℕ) → T (L .answers) → b ≡ answerRelation → T (isRelation L b)
@@ -76,20 +78,23 @@ module _ (B : List ℕ) where
 
   -- what holds of the answer record, if there is one, and of each atom, holds of each as they stand in the book
   pub each-standing : (P : ℕ → Type 0) → (T (announced B) → P (questionAt B))
-      → ((j : ℕ) → j < atoms B → P (questionAtomsAt B + atomSize * j))
-      → (j : ℕ) → j < answerRecords B + atoms B → P (questionAt B + atomSize * j)
+      → ((j : ℕ) → j < atoms B → P (questionAtomsAt B + atomSize B * j))
+      → (j : ℕ) → j < answerRecords B + atoms B → P (questionAt B + atomSize B * j)
   each-standing P f g j l = go one-or-none j l
     where
-      go : OneOrNone → (j : ℕ) → j < answerRecords B + atoms B → P (questionAt B + atomSize * j)
+      before : ℕ → ℕ
+      before n = atomSize B * n
+
+      go : OneOrNone → (j : ℕ) → j < answerRecords B + atoms B → P (questionAt B + atomSize B * j)
       go (inl h) zero l = subst P (omega arith) (f (h .0))
-      go (inl h) (suc j) l = subst P (omega (arith, h .1)) (g j (omega (arith, h .1)))
-      go (inr h) j l = subst P (omega (arith, h .1)) (g j (omega (arith, h .1)))
+      go (inl h) (suc j) l = subst P (omega (arith, ap before (h .1))) (g j (omega (arith, h .1)))
+      go (inr h) j l = subst P (omega (arith, ap before (h .1))) (g j (omega (arith, h .1)))
 
   module _ (s : SoundBook B) where
     none-wrong : (p : ℕ) → QuestionFrom B p → ⊥
     none-wrong = holds-nowhere (subst (Earliest (QuestionFrom B)) (passed B s .in-question) (question-earliest B))
 
-    none-loose : (p : ℕ) → T (announced B) × LooseFrom B (questionAtoms B) (questionAt B + 1) atomPlaces p → ⊥
+    none-loose : (p : ℕ) → T (announced B) × LooseFrom B (questionAtoms B) (questionAt B + 1) (atomPlaces B) p → ⊥
     none-loose = holds-nowhere (subst (Earliest _) (passed B s .none-loose) (loose-earliest B))
 
     answer-right : T (announced B) → AnswerRight B (questionAt B)
@@ -99,7 +104,7 @@ module _ (B : List ℕ) where
           used =
               record {
                 some-place = omega arith;
-                few-places = omega (arith, used-few B (i + 2) 3);
+                few-places = omega (arith, used-few B (i + 2) (answerMost - 1), form-known B .some-places);
                 places = λ w m. allowed w m (decide (ok w));
               };
         }
@@ -114,21 +119,21 @@ module _ (B : List ℕ) where
             absurd (none-wrong i (inl (t, inl (refl, λ u. clash (eqb (byte B i) answerRelation) u h))))
 
         ok : ℕ → Bool
-        ok w = placeAllowed (constants B) (ltb w (answerPlaces B i)) (byte B (i + 1 + w))
+        ok w = placeAllowed (variables B) (constants B) (ltb w (answerPlaces B i)) (byte B (i + 1 + w))
 
-        allowed : (w : ℕ) → w < atomPlaces → T (ok w) ⊎ T (not (ok w)) → T (ok w)
+        allowed : (w : ℕ) → w < atomPlaces B → T (ok w) ⊎ T (not (ok w)) → T (ok w)
         allowed w m (inl h) = h
         allowed w m (inr h) =
             absurd
             (none-wrong (i + 1 + w)
             (inl (t, inr (w, omega arith, omega arith, refl, λ u. clash (ok w) u h))))
 
-    variable-stands : T (announced B) → (w : ℕ) → w < atomPlaces
-        → T (standsIn (questionAtoms B) (byte B (questionAt B + 1 + w)))
-    variable-stands t w m = go (decide (standsIn (questionAtoms B) (byte B (questionAt B + 1 + w))))
+    variable-stands : T (announced B) → (w : ℕ) → w < atomPlaces B
+        → T (standsIn (variables B) (questionAtoms B) (byte B (questionAt B + 1 + w)))
+    variable-stands t w m = go (decide (standsIn (variables B) (questionAtoms B) (byte B (questionAt B + 1 + w))))
       where
         ok : Bool
-        ok = standsIn (questionAtoms B) (byte B (questionAt B + 1 + w))
+        ok = standsIn (variables B) (questionAtoms B) (byte B (questionAt B + 1 + w))
 
         go : T ok ⊎ T (not ok) → T ok
         go (inl h) = h
@@ -156,10 +161,10 @@ module _ (B : List ℕ) where
         at : ℕ → Type 0
         at k = T (isAtom L B k)
 
-        spread : (j : ℕ) → questionAt B + atomSize * j ≡ questionAt B + size L * j
+        spread : (j : ℕ) → questionAt B + atomSize B * j ≡ questionAt B + size L * j
         spread j = ap (λ (w : ℕ). questionAt B + (1 + w) * j) (sym (room .places-are))
 
-        all : (j : ℕ) → j < answerRecords B + atoms B → at (questionAt B + atomSize * j)
+        all : (j : ℕ) → j < answerRecords B + atoms B → at (questionAt B + atomSize B * j)
         all =
             each-standing at
             (λ t.

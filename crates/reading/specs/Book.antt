@@ -6,7 +6,7 @@ use Prim.Native.Nat.{ℕ, zero, suc, _+_, _*_}
 use lib.ListN.{take, drop}
 use Rattle.covering.specs.Term.{Question}
 use Rattle.covering.specs.Asking.{Asking}
-use Rattle.covering.specs.Record.{Layout, stored, argsAt, atomsAt}
+use Rattle.covering.specs.Record.{Layout, holding, argsAt, atomsAt}
 use Rattle.covering.specs.Rule.{Rule}
 use Rattle.reading.specs.Word.{byte}
 use Rattle.reading.specs.Header.{headerSize, relations, constants, rules, atoms, allowed, questionAt, atomSize}
@@ -32,17 +32,17 @@ abbrev pub bodyAt : List ℕ → ℕ → ℕ
 bodyAt B s = s + 2
 
 abbrev pub headAt : List ℕ → ℕ → ℕ
-headAt B s = s + 2 + atomSize * bodyCount B s
+headAt B s = s + 2 + atomSize B * bodyCount B s
 
 -- where the rule at s ends
 abbrev pub ruleEnd : List ℕ → ℕ → ℕ
-ruleEnd B s = s + 2 + atomSize * (bodyCount B s + headCount B s)
+ruleEnd B s = s + 2 + atomSize B * (bodyCount B s + headCount B s)
 
 unfoldable pub ruleAt : List ℕ → ℕ → Rule
 ruleAt B s =
     record {
-      body = atomsAt stored B (bodyAt B s) (bodyCount B s);
-      head = atomsAt stored B (headAt B s) (headCount B s);
+      body = atomsAt (holding (atomPlaces B)) B (bodyAt B s) (bodyCount B s);
+      head = atomsAt (holding (atomPlaces B)) B (headAt B s) (headCount B s);
     }
 
 -- n rules, one after the other, from s on: the rules, and where they end
@@ -54,9 +54,9 @@ unfoldable pub after : List ℕ → ℕ → ℕ → ℕ
 after B s zero = s
 after B s (suc n) = after B (ruleEnd B s) n
 
--- "The offsets are 18, 18 + P, and wherever the rules end."
+-- "The offsets are 18, 18 + P, and wherever the rules end."; "relations at 20" (02, i)
 abbrev pub rulesStart : List ℕ → ℕ
-rulesStart B = headerSize + relations B
+rulesStart B = headerSize B + relations B
 
 -- where rule k starts; at k = R, where the rules end
 abbrev pub ruleStart : List ℕ → ℕ → ℕ
@@ -64,23 +64,23 @@ ruleStart B k = after B (rulesStart B) k
 
 -- the number of places of relation r
 abbrev pub placesOf : List ℕ → ℕ → ℕ
-placesOf B r = byte B (headerSize + r)
+placesOf B r = byte B (headerSize B + r)
 
 -- the question's atoms, "used places first" of the record before them, if there is one
 abbrev pub questionAtoms : List ℕ → Question
-questionAtoms B = atomsAt stored B (questionAtomsAt B) (atoms B)
+questionAtoms B = atomsAt (holding (atomPlaces B)) B (questionAtomsAt B) (atoms B)
 
 unfoldable pub questionIn : List ℕ → Asking
 questionIn B =
     record {
-      answer = cond (announced B) (argsAt B (questionAt B + 1) atomPlaces) [];
+      answer = cond (announced B) (argsAt B (questionAt B + 1) (atomPlaces B)) [];
       atoms = questionAtoms B;
     }
 
 unfoldable pub bookOf : List ℕ → Book
 bookOf B =
     record {
-      places = take (relations B) (drop headerSize B);
+      places = take (relations B) (drop (headerSize B) B);
       constants = constants B;
       rules = rulesFrom B (rulesStart B) (rules B);
       question = questionIn B;
@@ -94,7 +94,7 @@ layoutOf B =
       atoms = atomsRange .most + answerRecords B;
       relations = relations B;
       answers = announced B;
-      places = atomPlaces;
-      variables = variables;
+      places = atomPlaces B;
+      variables = variables B;
       constants = constants B;
     }

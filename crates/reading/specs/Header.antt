@@ -1,17 +1,14 @@
--- The header, the limits of its fields and the sizes of what follows it (01, "Stored book").
+-- The header, the limits of its fields and the sizes of what follows it (01, "Stored book"), in both forms of a book
+-- (02, i).
 use mathlib.Core.Path.{_≡_}
 use mathlib.Core.Bool.{Bool, cond, _&&_}
 use mathlib.Core.Logic.{_⊎_}
 use mathlib.Core.List.{List}
 use Prim.Native.Nat.{ℕ, _+_, _*_, _<_}
 use lib.Dec.{eqb, leb}
-use Rattle.covering.specs.Record.{stored, size}
+use Rattle.covering.specs.Record.{oldPlaces, newPlaces, holding, size}
 use Rattle.reading.specs.declared.Header.{Header}
 use Rattle.reading.specs.Word.{word}
-
--- "All words are 16-bit ..  The header has nine": 18 bytes
-abbrev pub headerSize : ℕ
-headerSize = 18
 
 -- "relations P, constants C, rules R, question atoms N, explorations allowed L,"
 abbrev pub relations : List ℕ → ℕ
@@ -43,7 +40,56 @@ questionAt B = word B 14
 abbrev pub totalWord : List ℕ → ℕ
 totalWord B = word B 16
 
--- the nine as the code hands them on
+-- "A new book form has a tenth header word, 6" (02, i)
+abbrev pub tenthWord : List ℕ → ℕ
+tenthWord B = word B 18
+
+-- The two forms: the header's bytes, the places of an atom and how many variables there are.
+pub record BookForm : Type 0 where
+  pub header : ℕ
+  pub places : ℕ
+  pub variables : ℕ
+
+-- "The header has nine" words; "An atom is five bytes: relation number below P, then four places."; "0 to 31 for a
+-- variable"
+abbrev pub old : BookForm
+old = record { header = 18; places = oldPlaces; variables = 32 }
+
+-- "A new book form has a tenth header word, 6, relations at 20 .., atoms and answer records of seven bytes .. Variables
+-- run 0 to 47"
+abbrev pub new : BookForm
+new = record { header = 20; places = newPlaces; variables = 48 }
+
+-- "The relations' offset, 18 or 20, tells the forms apart." What has another offset is judged as old.
+abbrev pub saysNew : ℕ → Bool
+saysNew table = eqb table (new .header)
+
+unfoldable pub formFor : ℕ → BookForm
+formFor table = cond (saysNew table) new old
+
+abbrev pub isNew : List ℕ → Bool
+isNew B = saysNew (relationsAt B)
+
+abbrev pub formOf : List ℕ → BookForm
+formOf B = formFor (relationsAt B)
+
+abbrev pub headerSize : List ℕ → ℕ
+headerSize B = formOf B .header
+
+abbrev pub atomPlaces : List ℕ → ℕ
+atomPlaces B = formOf B .places
+
+abbrev pub variables : List ℕ → ℕ
+variables B = formOf B .variables
+
+-- an atom's bytes: its relation number and its places
+abbrev pub atomSizeIn : BookForm → ℕ
+atomSizeIn f = size (holding (f .places))
+
+abbrev pub atomSize : List ℕ → ℕ
+atomSize B = atomSizeIn (formOf B)
+
+-- the words as the code hands them on; the places are those that the tenth word tells, and four where there is none
 abbrev pub headerOf : List ℕ → Header
 headerOf B =
     record {
@@ -56,9 +102,10 @@ headerOf B =
       start = rulesAt B;
       question = questionAt B;
       total = totalWord B;
+      places = cond (isNew B) (tenthWord B) oldPlaces;
     }
 
--- a header that was read: the nine, each of 16 bits
+-- a header that was read: its words, each of 16 bits
 pub record HeaderRead (B : List ℕ) (h : Header) : Type 0 where
   pub is : h ≡ headerOf B
   pub relations-fit : relations B < 65536
@@ -85,9 +132,9 @@ atomsRange = record { least = 1; most = 8 }
 abbrev pub allowedRange : Range
 allowedRange = record { least = 1; most = 1000 }
 
--- "Relations: P bytes, each the number of places, 1 to 4."
-abbrev pub placesRange : Range
-placesRange = record { least = 1; most = 4 }
+-- "Relations: P bytes, each the number of places, 1 to 4."; "with one to six places" (02, i)
+abbrev pub placesRange : BookForm → Range
+placesRange f = record { least = 1; most = f .places }
 
 -- "two bytes, the body's and the head's atom counts, each 1 to 4"; "a fact is a rule with an empty body, so 01's
 -- definition is mended: body counts run 0 to 4" (02, c)
@@ -107,31 +154,20 @@ inside r n = inBounds (r .least) (r .most) n
 abbrev pub Outside : Range → ℕ → Type 0
 Outside r n = (n < r .least) ⊎ (r .most < n)
 
--- "An atom is five bytes: relation number below P, then four places." The width is that of the member record.
-abbrev pub atomSize : ℕ
-atomSize = size stored
+-- With answer places (02, a): "N doesn't count it; a total five larger announces it", or seven larger. Where the
+-- question ends without an answer record, and with one; whether there is one, and how many.
+abbrev pub endWithout : BookForm → ℕ → ℕ → ℕ
+endWithout f question atoms = question + atomSizeIn f * atoms
 
-abbrev pub atomPlaces : ℕ
-atomPlaces = stored .places
-
--- "0 to 31 for a variable"
-abbrev pub variables : ℕ
-variables = 32
-
--- With answer places (02, a): "N doesn't count it; a total five larger announces it." Where the question ends without
--- an answer record, and with one; whether there is one, and how many.
-abbrev pub endWithout : ℕ → ℕ → ℕ
-endWithout question atoms = question + atomSize * atoms
-
-abbrev pub endWith : ℕ → ℕ → ℕ
-endWith question atoms = question + atomSize * (atoms + 1)
+abbrev pub endWith : BookForm → ℕ → ℕ → ℕ
+endWith f question atoms = question + atomSizeIn f * (atoms + 1)
 
 unfoldable pub announced : List ℕ → Bool
-announced B = eqb (totalWord B) (endWith (questionAt B) (atoms B))
+announced B = eqb (totalWord B) (endWith (formOf B) (questionAt B) (atoms B))
 
 abbrev pub answerRecords : List ℕ → ℕ
 answerRecords B = cond (announced B) 1 0
 
 -- "before the question's atoms": where these start
 abbrev pub questionAtomsAt : List ℕ → ℕ
-questionAtomsAt B = questionAt B + atomSize * answerRecords B
+questionAtomsAt B = questionAt B + atomSize B * answerRecords B

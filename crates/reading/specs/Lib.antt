@@ -4,3 +4,5 @@ pub mod Header
 pub mod Book
 pub mod Refusals
 pub mod Verdict
+pub mod Written
+pub mod Copy

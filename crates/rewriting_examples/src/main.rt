@@ -1,10 +1,15 @@
 // What one rule makes of one question: each valid choice's number and its rewriting, a book a listing. The relation
 // numbers are in the order of the book's relations.
+ghost use mathlib.Core.Path.{_≡_};
 ghost use Prim.Native.Nat.{_+_, _≤_};
+ghost use Rattle.reading.specs.Header.{formOf, new};
+ghost use Rattle.reading.specs.Verdict.{SoundBook};
 ghost use Rattle.lister.specs.Listing.{QuestionIn, RuleIn};
 ghost use Rattle.covering.specs.Buffer.{recordRoom};
 use book::Parts;
 use covering::RECORD;
+use forms::BOOK;
+use forms::to_new;
 use libc::STDOUT_FILENO;
 
 // No choice has a number as large: five digits' values for each of eight atoms.
@@ -92,13 +97,13 @@ fn show_term(b: u8) {
 
 // The atom at i: its relation, and its terms with commas between.
 fn show_atom(record: &[u8; RECORD], i: usize)
-    requires { ⌜ i + 5 ≤ recordRoom ⌝ }
+    requires { ⌜ i + 7 ≤ recordRoom ⌝ }
 {
     put(b" r");
     byte(record[i]);
     put(b"(");
     let mut w: usize = 0;
-    while w < 4 {
+    while w < 6 {
         let b = record[i + 1 + w];
         if b != 255 {
             if 0 < w {
@@ -123,7 +128,7 @@ fn show(choice: usize, record: &[u8; RECORD]) {
     let mut i: usize = 0;
     while i < 12 {
         if i < n {
-            show_atom(record, 1 + 5 * i);
+            show_atom(record, 1 + 7 * i);
         }
         i += 1;
     }
@@ -135,14 +140,14 @@ fn list(question: &[u8], book: &[u8], rule: Parts)
     requires { ⌜ QuestionIn (now question) × RuleIn (now book) rule ⌝ }
 {
     let mut from: usize = 0;
+    let mut rewriting = [255u8; RECORD];
     while from < MOST {
-        let r = lister::next(question, book, rule, from);
+        let r = lister::next(question, book, rule, from, &mut rewriting);
         let found = r.found;
         if !found {
             return;
         }
         let choice = r.choice;
-        let rewriting = r.rewriting;
         show(choice, &rewriting);
         from = choice + 1;
     }
@@ -152,11 +157,19 @@ fn list(question: &[u8], book: &[u8], rule: Parts)
 fn tell(name: &[u8], book: &[u8]) {
     put(name);
     put(b"\n");
-    let r = book::check(book);
-    if r.number != 0 {
+    let mut wide = [0u8; BOOK];
+    let copy = to_new(book, &mut wide);
+    if copy.number != 0 {
         put(b"refused\n");
         return;
     }
+    tell_new(&wide[..copy.place]);
+}
+
+// The same of a sound book in the new form.
+fn tell_new(book: &[u8])
+    requires { ⌜ SoundBook (now book) × (formOf (now book) ≡ new) ⌝ }
+{
     let h = book::read(book);
     if h.rules == 0 {
         put(b"no rule\n");

@@ -8,6 +8,7 @@ pub mod Moved
 -- the classes are the least; validity, and 01's words for it; which term stands for a class does not matter
 pub mod Classes
 pub mod Valid
+pub mod Invalid
 pub mod Means
 pub mod Representatives
 -- the list of rewritings: what stands in it, in which order, from a number on, how large; k does not matter
@@ -17,11 +18,15 @@ pub mod Following
 pub mod Sizes
 pub mod Renamed
 pub mod Shift
+-- choices that go on from a prefix, and what covers the rewritings of them all
+pub mod Extending
+pub mod Prefix
 -- a step is sound and complete for rule application
 pub mod StepSound
 pub mod StepComplete
 -- questions with answer places
 pub mod AnswerRecord
+pub mod Unrelated
 pub mod ShapeKept
 pub mod AnswerSizes
 -- the list is exactly the published one

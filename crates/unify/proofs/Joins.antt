@@ -19,13 +19,13 @@ use Rattle.unify.specs.Table.{Table, look, joinTable, unifyTable}
 
 -- no place is left
 pub joins-done : (F S : List ℕ) (i k w : ℕ) (m : Table) → w ≡ 0
-    → unifyTable (placePairs (argsAt F i w) (map (on-term (up 32)) (argsAt S k w))) m ≡ some m
+    → unifyTable (placePairs (argsAt F i w) (map (on-term (up 48)) (argsAt S k w))) m ≡ some m
 joins-done F S i k w m e = rw (e, args-none F i, args-none S k)
 
 -- of w places j are passed
 module _ (F S : List ℕ) (i k j w : ℕ) (lt : j < w) where
   abbrev here : Table → Option Table
-  here m = unifyTable (placePairs (argsAt F (i + j) (w - j)) (map (on-term (up 32)) (argsAt S (k + j) (w - j)))) m
+  here m = unifyTable (placePairs (argsAt F (i + j) (w - j)) (map (on-term (up 48)) (argsAt S (k + j) (w - j)))) m
 
   -- the question's places end: so must the head's
   pub joins-end : (m : Table) → getD F (i + j) 0 ≡ 255 → here m ≡ cond (eqb (getD S (k + j) 0) 255) (some m) none
@@ -42,7 +42,7 @@ module _ (F S : List ℕ) (i k j w : ℕ) (lt : j < w) where
 
   module _ (m : Table) (used : getD F (i + j) 0 ≡ 255 → ⊥) (used′ : getD S (k + j) 0 ≡ 255 → ⊥) where
     abbrev step : Option Table
-    step = joinTable m (look m (termOf (getD F (i + j) 0))) (look m (on-term (up 32) (termOf (getD S (k + j) 0))))
+    step = joinTable m (look m (termOf (getD F (i + j) 0))) (look m (on-term (up 48) (termOf (getD S (k + j) 0))))
 
     pub joins-clash : step ≡ none → here m ≡ none
     joins-clash e = rw (args-more F i j w lt used, args-more S k j w lt used′, e)
@@ -52,14 +52,14 @@ module _ (F S : List ℕ) (i k j w : ℕ) (lt : j < w) where
         ≡ unifyTable
         (placePairs
         (argsAt F (i + (j + 1)) (w - (j + 1)))
-        (map (on-term (up 32)) (argsAt S (k + (j + 1)) (w - (j + 1)))))
+        (map (on-term (up 48)) (argsAt S (k + (j + 1)) (w - (j + 1)))))
         n
     joins-next e = rw (args-more F i j w lt used, args-more S k j w lt used′, e)
 
 -- the ways of an atom
 module _ (L : Layout) (F S : List ℕ) (i k : ℕ) (m : Table) where
   abbrev pair : Option Table
-  pair = unifyTable (atomPairs (atomAt L F i) (on-atom (up 32) (atomAt L S k))) m
+  pair = unifyTable (atomPairs (atomAt L F i) (on-atom (up 48) (atomAt L S k))) m
 
   pub pairs-apart : (getD F i 0 ≡ getD S k 0 → ⊥) → pair ≡ none
   pairs-apart ne = rw (relation-at L F i, relation-at L S k, ne-eqb (getD F i 0) (getD S k 0) ne)
@@ -67,7 +67,7 @@ module _ (L : Layout) (F S : List ℕ) (i k : ℕ) (m : Table) where
   pub pairs-meet : getD F i 0 ≡ getD S k 0
       → pair
       ≡ unifyTable
-      (placePairs (argsAt F (i + 1) (L .places)) (map (on-term (up 32)) (argsAt S (k + 1) (L .places))))
+      (placePairs (argsAt F (i + 1) (L .places)) (map (on-term (up 48)) (argsAt S (k + 1) (L .places))))
       m
   pairs-meet e =
       rw (relation-at L F i, relation-at L S k, eq-eqb (getD F i 0) (getD S k 0) e, args-at L F i, args-at L S k)

@@ -1,6 +1,6 @@
 -- Laws of terms and classes as the code holds them in bytes. Assumes nothing.
 use mathlib.Core.Path.{_≡_, refl, sym, _∙_, ap, subst, ap₂}
-use mathlib.Core.Bool.{true, false, cond}
+use mathlib.Core.Bool.{Bool, true, false, cond}
 use mathlib.Core.Logic.{_⊎_, inl, inr}
 use mathlib.Core.List.{List, _∷_, map, map-map}
 use mathlib.Core.Option.{none, some}
@@ -15,17 +15,16 @@ use Rattle.covering.proofs.Bytes.{term-var, term-con}
 use Rattle.covering.proofs.Lists.{map-same, map-none}
 use Rattle.covering.proofs.Tests.{either}
 use Rattle.covering.specs.Lists.{numbers}
-use Rattle.unify.specs.declared.Joined.{Joined}
 use Rattle.unification.specs.Classes.{point}
 use Rattle.unification.specs.Step.{up}
 use Rattle.unify.specs.Table.{Table, look, joinTable, own}
-use Rattle.unify.specs.InBytes.{classesOf, joinedTable}
+use Rattle.unify.specs.InBytes.{classesOf, merged}
 
-pub moved-variable : (u : ℕ) → u < 32 → termOf (u + 32) ≡ on-term (up 32) (termOf u)
-moved-variable u h = term-var (u + 32) (omega arith) ∙ ap var (omega arith) ∙ sym (ap (on-term (up 32)) (term-var u (omega arith)))
+pub moved-variable : (u : ℕ) → u < 48 → termOf (u + 48) ≡ on-term (up 48) (termOf u)
+moved-variable u h = term-var (u + 48) (omega arith) ∙ ap var (omega arith) ∙ sym (ap (on-term (up 48)) (term-var u (omega arith)))
 
-pub moved-constant : (u : ℕ) → 128 ≤ u → termOf u ≡ on-term (up 32) (termOf u)
-moved-constant u h = term-con u h ∙ sym (ap (on-term (up 32)) (term-con u h))
+pub moved-constant : (u : ℕ) → 128 ≤ u → termOf u ≡ on-term (up 48) (termOf u)
+moved-constant u h = term-con u h ∙ sym (ap (on-term (up 48)) (term-con u h))
 
 -- an entry of the classes, whatever stands past their end
 pub classes-at : (m : List ℕ) (n : ℕ) (d : Term) → n < length m → getD (classesOf m) n d ≡ termOf (getD m n 0)
@@ -96,13 +95,13 @@ pub join-clash : (m : List ℕ) (a b : ℕ) → 128 ≤ a → 128 ≤ b → (a �
     → joinTable (classesOf m) (termOf a) (termOf b) ≡ none
 join-clash m a b h k ne = rw (term-con a h, term-con b k, ne-eqb (a - 128) (b - 128) (λ e. ne (omega arith)))
 
-pub joined-yes : (p : Joined) → p .ok ≡ true → joinedTable p ≡ some (classesOf (p .table))
-unfolding joinedTable
-joined-yes p e = rw e
+pub merged-yes : (r : Bool) (m : List ℕ) → r ≡ true → merged r m ≡ some (classesOf m)
+unfolding merged
+merged-yes r m e = rw e
 
-pub joined-no : (p : Joined) → p .ok ≡ false → joinedTable p ≡ none
-unfolding joinedTable
-joined-no p e = rw e
+pub merged-no : (r : Bool) (m : List ℕ) → r ≡ false → merged r m ≡ none
+unfolding merged
+merged-no r m e = rw e
 
 -- bytes that are their own places put each variable in a class of its own
 pub own-bytes : (n i : ℕ) → i + n ≤ 128 → classesOf (numbers i n) ≡ own i n

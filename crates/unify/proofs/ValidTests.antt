@@ -17,9 +17,11 @@ use Rattle.covering.proofs.Lists.{map-none, all-append}
 use Rattle.covering.proofs.Tests.{either}
 use Rattle.covering.proofs.Terms.{on-atom-fixed, terms-on}
 use Rattle.covering.specs.Rule.{Rule}
-use Rattle.unification.specs.Step.{up, move, memTerm, isUnknown, guarded, safe}
+use Rattle.unification.specs.Step.{up, move, memTerm, isUnknown, guarded, safe, valid}
+use Rattle.unification.proofs.Invalid.{always-valid}
 use Rattle.unify.specs.Table.{Table, look, tabled}
 use Rattle.unify.specs.InBytes.{ruleIn, classesOf}
+use Rattle.unify.specs.Unknowns.{hasUnknowns}
 
 -- a byte moved up by k
 pub up-variable : (k u : ℕ) → k + u < 128 → termOf (k + u) ≡ on-term (up k) (termOf u)
@@ -133,7 +135,7 @@ allowedTerm σ L r z = not (isUnknown r z) || safe σ (guarded L r) z
 
 abbrev pub allowedByte : List ℕ → List ℕ → ℕ → ℕ → ℕ → ℕ → List ℕ → Term → Bool
 allowedByte left book body bodies head heads table =
-    allowedTerm (tabled (classesOf table)) (leftIn left) (move 32 (ruleIn book body bodies head heads))
+    allowedTerm (tabled (classesOf table)) (leftIn left) (move 48 (ruleIn book body bodies head heads))
 
 -- a head term t of a rule that is moved by k: in the order of the tests
 module _ (k : ℕ) (r : Rule) (t : Term) (σ : Sub) (L : Question) where
@@ -153,3 +155,16 @@ module _ (k : ℕ) (r : Rule) (t : Term) (σ : Sub) (L : Question) where
         f
         ∙ ap (safe σ (guarded L (move k r))) is
         ∙ sym (rw (up-var k t ∙ v, up-mem k t (r .body) ∙ sym body ∙ e))
+
+-- a variable that stands nowhere in the body: of a head's terms, an existential one
+abbrev pub unknownTo : Question → Term → Bool
+unknownTo body t = isVar t && not (memTerm t (terms body))
+
+-- a rule without existential variables has none once it is moved, so every choice is valid
+pub no-unknowns : (k : ℕ) (r : Rule) → hasUnknowns r ≡ false → (σ : Sub) (L : Question) → valid σ L (move k r) ≡ true
+unfolding hasUnknowns
+no-unknowns k r e = always-valid (move k r) (ap (any (isUnknown (move k r))) (terms-on (up k) (r .head)) ∙ go (terms (r .head)) ∙ e)
+  where
+    go : (ts : List Term) → any (isUnknown (move k r)) (map (on-term (up k)) ts) ≡ any (isUnknown r) ts
+    go [] = refl
+    go (t ∷ ts) = ap₂ _||_ (ap₂ (λ (v b : Bool). v && not b) (up-var k t) (up-mem k t (r .body))) (go ts)

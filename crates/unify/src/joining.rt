@@ -1,5 +1,5 @@
-// Putting terms in one class: a question atom on a head atom, under the classes so far.
-use crate::Joined;
+// Putting terms in one class: a question atom on a head atom, under the classes so far, which are lent and changed in
+// place. What they are after a no does not count.
 use crate::byte::moved;
 use crate::byte::stands_for;
 ghost use mathlib.Core.Path.{_≡_};
@@ -14,9 +14,9 @@ ghost use Rattle.unification.specs.Classes.{point};
 ghost use Rattle.unification.specs.Choice.{placePairs, atomPairs};
 ghost use Rattle.unification.specs.Step.{up};
 ghost use Rattle.unify.specs.Table.{own, joinTable, unifyTable};
-ghost use Rattle.unify.specs.InBytes.{inBook, classesOf, joinedTable};
+ghost use Rattle.unify.specs.InBytes.{inBook, classesOf, merged};
 
-const OWN: [u8; 64] = [
+const OWN: [u8; 96] = [
     0,
     1,
     2,
@@ -81,11 +81,43 @@ const OWN: [u8; 64] = [
     61,
     62,
     63,
+    64,
+    65,
+    66,
+    67,
+    68,
+    69,
+    70,
+    71,
+    72,
+    73,
+    74,
+    75,
+    76,
+    77,
+    78,
+    79,
+    80,
+    81,
+    82,
+    83,
+    84,
+    85,
+    86,
+    87,
+    88,
+    89,
+    90,
+    91,
+    92,
+    93,
+    94,
+    95,
 ];
 
 // Each variable in a class of its own.
-pub fn all_apart() -> [u8; 64]
-    ensures { λ r. ⌜ classesOf r ≡ own 0 64 ⌝ }
+pub fn all_apart() -> [u8; 96]
+    ensures { λ r. ⌜ classesOf r ≡ own 0 96 ⌝ }
 {
     OWN
 }
@@ -101,103 +133,81 @@ fn put_for(x: u8, v: u8, b: u8) -> u8
 }
 
 // Wherever the variable v stands for a class, b stands for it from now on.
-fn replaced(table: [u8; 64], v: u8, b: u8) -> [u8; 64]
-    requires { ⌜ v < 128 ⌝ }
-    ensures { λ r. ⌜ classesOf r ≡ map (point v (termOf b)) (classesOf table) ⌝ }
+fn replaced(table: &mut [u8], v: u8, b: u8)
+    requires { ⌜ (length (now table) ≡ 96) × (v < 128) ⌝ }
+    ensures { λ _. ⌜ classesOf (now (table .exit)) ≡ map (point v (termOf b)) (classesOf (now (table .entry))) ⌝ }
 {
-    let mut next = table;
     let mut i = 0;
-    while i < 64 {
-        let x = put_for(next[i], v, b);
-        next[i] = x;
+    while i < 96 {
+        table[i] = put_for(table[i], v, b);
         i += 1;
     }
-    next
 }
 
 // The classes that a and b stand for become one, a constant standing for it; two constants are never one.
-fn join(table: [u8; 64], a: u8, b: u8) -> Joined
-    ensures { λ r. ⌜ joinedTable r ≡ joinTable (classesOf table) (termOf a) (termOf b) ⌝ }
+fn join(table: &mut [u8], a: u8, b: u8) -> bool
+    requires { ⌜ length (now table) ≡ 96 ⌝ }
+    ensures { λ r. ⌜ merged r (now (table .exit)) ≡ joinTable (classesOf (now (table .entry))) (termOf a) (termOf b) ⌝ }
 {
     if a == b {
-        return Joined {
-            ok: true,
-            table: table,
-        };
+        return true;
     }
     if a < 128 {
-        let next = replaced(table, a, b);
-        return Joined {
-            ok: true,
-            table: next,
-        };
+        replaced(table, a, b);
+        return true;
     }
     if b < 128 {
-        let next = replaced(table, b, a);
-        return Joined {
-            ok: true,
-            table: next,
-        };
+        replaced(table, b, a);
+        return true;
     }
-    Joined {
-        ok: false,
-        table: table,
-    }
+    false
 }
 
 // The used places of the question from i on are put with those of the head from k on, which are moved up: as many, each
 // with its own.
-fn join_places(question: &[u8], book: &[u8], i: usize, k: usize, table: [u8; 64]) -> Joined
-    requires { ⌜ (i + 4 ≤ length (now question)) × (k + 4 ≤ length (now book)) × T (usedFirst inBook (now book) k 4) ⌝ }
-    ensures { λ r. ⌜ joinedTable r
+fn join_places(question: &[u8], book: &[u8], i: usize, k: usize, table: &mut [u8]) -> bool
+    requires { ⌜ (i + 6 ≤ length (now question))
+        × (k + 6 ≤ length (now book))
+        × T (usedFirst inBook (now book) k 6)
+        × (length (now table) ≡ 96) ⌝ }
+    ensures { λ r. ⌜ merged r (now (table .exit))
         ≡ unifyTable
-        (placePairs (argsAt (now (question .entry)) i 4) (map (on-term (up 32)) (argsAt (now (book .entry)) k 4)))
-        (classesOf table) ⌝ }
+        (placePairs (argsAt (now (question .entry)) i 6) (map (on-term (up 48)) (argsAt (now (book .entry)) k 6)))
+        (classesOf (now (table .entry))) ⌝ }
 {
-    let mut so_far = table;
     let mut j = 0;
-    while j < 4 {
+    while j < 6 {
         let t = question[i + j];
         let u = book[k + j];
         if t == 255 {
-            return Joined {
-                ok: u == 255,
-                table: so_far,
-            };
+            return u == 255;
         }
         if u == 255 {
-            return Joined {
-                ok: false,
-                table: so_far,
-            };
+            return false;
         }
-        let joined = join(so_far, stands_for(so_far, t), stands_for(so_far, moved(u)));
-        let ok = joined.ok;
-        if !ok {
-            return joined;
+        let a = stands_for(table, t);
+        let b = stands_for(table, moved(u));
+        if !join(table, a, b) {
+            return false;
         }
-        so_far = joined.table;
         j += 1;
     }
-    Joined {
-        ok: true,
-        table: so_far,
-    }
+    true
 }
 
-// The question atom at i is put on the head atom at k of the book.
-pub fn join_atoms(question: &[u8], book: &[u8], i: usize, k: usize, table: [u8; 64]) -> Joined
-    requires { ⌜ (i + 5 ≤ length (now question)) × (k + 5 ≤ length (now book)) × T (isAtom inBook (now book) k) ⌝ }
-    ensures { λ r. ⌜ joinedTable r
+// The question atom at i is put on the head atom at k of the book. Atoms of two relations cost two bytes read.
+pub fn join_atoms(question: &[u8], book: &[u8], i: usize, k: usize, table: &mut [u8]) -> bool
+    requires { ⌜ (i + 7 ≤ length (now question))
+        × (k + 7 ≤ length (now book))
+        × T (isAtom inBook (now book) k)
+        × (length (now table) ≡ 96) ⌝ }
+    ensures { λ r. ⌜ merged r (now (table .exit))
         ≡ unifyTable
-        (atomPairs (atomAt stored (now (question .entry)) i) (on-atom (up 32) (atomAt stored (now (book .entry)) k)))
-        (classesOf table) ⌝ }
+        (atomPairs (atomAt stored (now (question .entry)) i) (on-atom (up 48) (atomAt stored (now (book .entry)) k)))
+        (classesOf (now (table .entry))) ⌝ }
 {
     if question[i] != book[k] {
-        return Joined {
-            ok: false,
-            table: table,
-        };
+        return false;
     }
     join_places(question, book, i + 1, k + 1, table)
 }

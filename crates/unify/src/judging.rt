@@ -2,7 +2,6 @@
 // for question variables that occur in no left atom.
 use crate::byte::moved;
 use crate::byte::stands_for;
-use covering::RECORD;
 ghost use mathlib.Core.Path.{_≡_};
 ghost use mathlib.Core.Bool.{not, _||_};
 ghost use mathlib.Core.List.{map};
@@ -19,11 +18,11 @@ ghost use Rattle.unify.specs.InBytes.{inBook, ruleIn, classesOf};
 
 // Whether the term t stands in one of the used places from i on.
 fn in_places(s: &[u8], i: usize, t: u8) -> bool
-    requires { ⌜ i + 4 ≤ length (now s) ⌝ }
-    ensures { λ r. ⌜ r ≡ memTerm (termOf t) (argsAt (now (s .entry)) i 4) ⌝ }
+    requires { ⌜ i + 6 ≤ length (now s) ⌝ }
+    ensures { λ r. ⌜ r ≡ memTerm (termOf t) (argsAt (now (s .entry)) i 6) ⌝ }
 {
     let mut j = 0;
-    while j < 4 {
+    while j < 6 {
         let u = s[i + j];
         if u == 255 {
             return false;
@@ -37,8 +36,8 @@ fn in_places(s: &[u8], i: usize, t: u8) -> bool
 }
 
 // Whether the term t stands in one of the n atoms from i on.
-fn in_atoms(s: &[u8], i: usize, n: usize, t: u8) -> bool
-    requires { ⌜ i + n * 5 ≤ length (now s) ⌝ }
+pub fn in_atoms(s: &[u8], i: usize, n: usize, t: u8) -> bool
+    requires { ⌜ i + n * 7 ≤ length (now s) ⌝ }
     ensures { λ r. ⌜ r ≡ memTerm (termOf t) (terms (atomsAt stored (now (s .entry)) i n)) ⌝ }
 {
     let mut at = i;
@@ -47,28 +46,29 @@ fn in_atoms(s: &[u8], i: usize, n: usize, t: u8) -> bool
         if in_places(s, at + 1, t) {
             return true;
         }
-        at += 5;
+        at += 7;
         more -= 1;
     }
     false
 }
 
-// A term, its variable moved up by shift: 0 for a left atom's term, 32 for a rule's.
+// A term, its variable moved up by shift: 0 for a left atom's term, 48 for a rule's.
 fn shifted(u: u8, shift: u8) -> u8
-    requires { ⌜ (32 ≤ u → 128 ≤ u) × (shift ≤ 32) ⌝ }
+    requires { ⌜ (48 ≤ u → 128 ≤ u) × (shift ≤ 48) ⌝ }
     ensures { λ r. ⌜ termOf r ≡ on-term (up shift) (termOf u) ⌝ }
 {
-    if u < 32 {
+    if u < 48 {
         return shift + u;
     }
     u
 }
 
 // Whether the term t is z itself or is in another class than the one that rep stands for.
-fn is_apart(table: [u8; 64], t: u8, z: u8, rep: u8) -> bool
+fn is_apart(table: &[u8], t: u8, z: u8, rep: u8) -> bool
+    requires { ⌜ length (now table) ≡ 96 ⌝ }
     ensures { λ r. ⌜ r
         ≡ (eqTerm (termOf t) (termOf z)
-        || not (eqTerm (on-term (tabled (classesOf table)) (termOf t)) (termOf rep))) ⌝ }
+        || not (eqTerm (on-term (tabled (classesOf (now (table .entry)))) (termOf t)) (termOf rep))) ⌝ }
 {
     if t == z {
         return true;
@@ -77,15 +77,18 @@ fn is_apart(table: [u8; 64], t: u8, z: u8, rep: u8) -> bool
 }
 
 // Whether, of the terms in the used places from i on, moved up by shift, none but z is in the class of rep.
-fn apart_places(s: &[u8], i: usize, shift: u8, z: u8, rep: u8, table: [u8; 64]) -> bool
-    requires { ⌜ (i + 4 ≤ length (now s)) × (shift ≤ 32) × T (usedFirst inBook (now s) i 4) ⌝ }
+fn apart_places(s: &[u8], i: usize, shift: u8, z: u8, rep: u8, table: &[u8]) -> bool
+    requires { ⌜ (i + 6 ≤ length (now s))
+        × (shift ≤ 48)
+        × T (usedFirst inBook (now s) i 6)
+        × (length (now table) ≡ 96) ⌝ }
     ensures { λ r. ⌜ r
         ≡ all
-        (λ t. eqTerm t (termOf z) || not (eqTerm (on-term (tabled (classesOf table)) t) (termOf rep)))
-        (map (on-term (up shift)) (argsAt (now (s .entry)) i 4)) ⌝ }
+        (λ t. eqTerm t (termOf z) || not (eqTerm (on-term (tabled (classesOf (now (table .entry)))) t) (termOf rep)))
+        (map (on-term (up shift)) (argsAt (now (s .entry)) i 6)) ⌝ }
 {
     let mut j = 0;
-    while j < 4 {
+    while j < 6 {
         let u = s[i + j];
         if u == 255 {
             return true;
@@ -100,11 +103,11 @@ fn apart_places(s: &[u8], i: usize, shift: u8, z: u8, rep: u8, table: [u8; 64]) 
 }
 
 // The same of the terms of the n atoms from i on.
-fn apart_atoms(s: &[u8], i: usize, n: usize, shift: u8, z: u8, rep: u8, table: [u8; 64]) -> bool
-    requires { ⌜ AtomsIn inBook (now s) i n × (shift ≤ 32) ⌝ }
+fn apart_atoms(s: &[u8], i: usize, n: usize, shift: u8, z: u8, rep: u8, table: &[u8]) -> bool
+    requires { ⌜ AtomsIn inBook (now s) i n × (shift ≤ 48) × (length (now table) ≡ 96) ⌝ }
     ensures { λ r. ⌜ r
         ≡ all
-        (λ t. eqTerm t (termOf z) || not (eqTerm (on-term (tabled (classesOf table)) t) (termOf rep)))
+        (λ t. eqTerm t (termOf z) || not (eqTerm (on-term (tabled (classesOf (now (table .entry)))) t) (termOf rep)))
         (terms (on-question (up shift) (atomsAt stored (now (s .entry)) i n))) ⌝ }
 {
     let mut at = i;
@@ -113,7 +116,7 @@ fn apart_atoms(s: &[u8], i: usize, n: usize, shift: u8, z: u8, rep: u8, table: [
         if !apart_places(s, at + 1, shift, z, rep, table) {
             return false;
         }
-        at += 5;
+        at += 7;
         more -= 1;
     }
     true
@@ -128,18 +131,19 @@ fn is_safe(
     bodies: usize,
     head: usize,
     heads: usize,
-    table: [u8; 64],
+    table: &[u8],
     z: u8,
 ) -> bool
     requires { ⌜ AtomsIn inBook (now left) 1 (getD (now left) 0 0)
         × AtomsIn inBook (now book) body bodies
-        × AtomsIn inBook (now book) head heads ⌝ }
+        × AtomsIn inBook (now book) head heads
+        × (length (now table) ≡ 96) ⌝ }
     ensures { λ r. ⌜ r
         ≡ safe
-        (tabled (classesOf table))
+        (tabled (classesOf (now (table .entry))))
         (guarded
         (atomsAt stored (now (left .entry)) 1 (getD (now (left .entry)) 0 0))
-        (move 32 (ruleIn (now (book .entry)) body bodies head heads)))
+        (move 48 (ruleIn (now (book .entry)) body bodies head heads)))
         (termOf z) ⌝ }
 {
     let rep = stands_for(table, z);
@@ -150,10 +154,10 @@ fn is_safe(
     if !apart_atoms(left, 1, n, 0, z, rep, table) {
         return false;
     }
-    if !apart_atoms(book, body, bodies, 32, z, rep, table) {
+    if !apart_atoms(book, body, bodies, 48, z, rep, table) {
         return false;
     }
-    apart_atoms(book, head, heads, 32, z, rep, table)
+    apart_atoms(book, head, heads, 48, z, rep, table)
 }
 
 // Whether the head's term u, once moved, is no existential variable or is safe.
@@ -164,21 +168,22 @@ fn is_allowed(
     bodies: usize,
     head: usize,
     heads: usize,
-    table: [u8; 64],
+    table: &[u8],
     u: u8,
 ) -> bool
     requires { ⌜ AtomsIn inBook (now left) 1 (getD (now left) 0 0)
         × AtomsIn inBook (now book) body bodies
         × AtomsIn inBook (now book) head heads
-        × (32 ≤ u → 128 ≤ u) ⌝ }
+        × (48 ≤ u → 128 ≤ u)
+        × (length (now table) ≡ 96) ⌝ }
     ensures { λ r. ⌜ r
-        ≡ (not (isUnknown (move 32 (ruleIn (now (book .entry)) body bodies head heads)) (on-term (up 32) (termOf u)))
+        ≡ (not (isUnknown (move 48 (ruleIn (now (book .entry)) body bodies head heads)) (on-term (up 48) (termOf u)))
         || safe
-        (tabled (classesOf table))
+        (tabled (classesOf (now (table .entry))))
         (guarded
         (atomsAt stored (now (left .entry)) 1 (getD (now (left .entry)) 0 0))
-        (move 32 (ruleIn (now (book .entry)) body bodies head heads)))
-        (on-term (up 32) (termOf u))) ⌝ }
+        (move 48 (ruleIn (now (book .entry)) body bodies head heads)))
+        (on-term (up 48) (termOf u))) ⌝ }
 {
     if 128 <= u {
         return true;
@@ -198,27 +203,28 @@ fn allowed_places(
     bodies: usize,
     head: usize,
     heads: usize,
-    table: [u8; 64],
+    table: &[u8],
     i: usize,
 ) -> bool
     requires { ⌜ AtomsIn inBook (now left) 1 (getD (now left) 0 0)
         × AtomsIn inBook (now book) body bodies
         × AtomsIn inBook (now book) head heads
-        × (i + 4 ≤ length (now book))
-        × T (usedFirst inBook (now book) i 4) ⌝ }
+        × (i + 6 ≤ length (now book))
+        × T (usedFirst inBook (now book) i 6)
+        × (length (now table) ≡ 96) ⌝ }
     ensures { λ r. ⌜ r
         ≡ all
-        (λ z. not (isUnknown (move 32 (ruleIn (now (book .entry)) body bodies head heads)) z)
+        (λ z. not (isUnknown (move 48 (ruleIn (now (book .entry)) body bodies head heads)) z)
         || safe
-        (tabled (classesOf table))
+        (tabled (classesOf (now (table .entry))))
         (guarded
         (atomsAt stored (now (left .entry)) 1 (getD (now (left .entry)) 0 0))
-        (move 32 (ruleIn (now (book .entry)) body bodies head heads)))
+        (move 48 (ruleIn (now (book .entry)) body bodies head heads)))
         z)
-        (map (on-term (up 32)) (argsAt (now (book .entry)) i 4)) ⌝ }
+        (map (on-term (up 48)) (argsAt (now (book .entry)) i 6)) ⌝ }
 {
     let mut j = 0;
-    while j < 4 {
+    while j < 6 {
         let u = book[i + j];
         if u == 255 {
             return true;
@@ -234,30 +240,31 @@ fn allowed_places(
 // Whether the classes in the table are valid for the left atoms, a count byte and so many atoms, and the rule whose
 // body and head stand in the book.
 pub fn is_valid(
-    left: [u8; RECORD],
+    left: &[u8],
     book: &[u8],
     body: usize,
     bodies: usize,
     head: usize,
     heads: usize,
-    table: [u8; 64],
+    table: &[u8],
 ) -> bool
-    requires { ⌜ AtomsIn inBook left 1 (getD left 0 0)
+    requires { ⌜ AtomsIn inBook (now left) 1 (getD (now left) 0 0)
         × AtomsIn inBook (now book) body bodies
-        × AtomsIn inBook (now book) head heads ⌝ }
+        × AtomsIn inBook (now book) head heads
+        × (length (now table) ≡ 96) ⌝ }
     ensures { λ r. ⌜ r
         ≡ valid
-        (tabled (classesOf table))
-        (questionOf stored left)
-        (move 32 (ruleIn (now (book .entry)) body bodies head heads)) ⌝ }
+        (tabled (classesOf (now (table .entry))))
+        (questionOf stored (now (left .entry)))
+        (move 48 (ruleIn (now (book .entry)) body bodies head heads)) ⌝ }
 {
     let mut at = head;
     let mut more = heads;
     while 0 < more {
-        if !allowed_places(&left, book, body, bodies, head, heads, table, at + 1) {
+        if !allowed_places(left, book, body, bodies, head, heads, table, at + 1) {
             return false;
         }
-        at += 5;
+        at += 7;
         more -= 1;
     }
     true

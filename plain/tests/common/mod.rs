@@ -2,10 +2,12 @@
 
 #![allow(dead_code)]
 
-use plain::OUTPUT_ROOM;
+use plain::{BOOK_ROOM, OUTPUT_ROOM};
 use second::book;
+use second::copying::{to_new, to_old};
 use second::pairs::Pair;
 use second::source;
+use second::width::{Width, WIDTHS};
 use std::fs;
 use std::path::PathBuf;
 use std::time::{Duration, Instant};
@@ -68,12 +70,54 @@ pub fn same(name: &str, book: &[u8]) {
 }
 
 /// Both programs say the same of a pair, and of the pair turned round.
-pub fn same_pair((first, second): &Pair) {
-    for (a, b) in [(first, second), (second, first)] {
-        let covers = second::desk::covers(a, b).number;
-        assert_eq!(plain::covers(a, b), covers, "{a:?} {b:?}");
-        let kept = second::desk::kept(a, b).which;
-        assert_eq!(plain::kept(a, b), kept, "{a:?} {b:?}");
+pub fn same_pair(pair: &Pair) {
+    let width = pair.width;
+    for Pair { first, second, .. } in [pair.clone(), pair.turned()] {
+        let (a, b) = (&first[..], &second[..]);
+        let covers = second::desk::covers(a, b, width).number;
+        assert_eq!(plain::covers(a, b, width), covers, "{width} {a:?} {b:?}");
+        let kept = second::desk::kept(a, b, width).which;
+        assert_eq!(plain::kept(a, b, width), kept, "{width} {a:?} {b:?}");
+    }
+}
+
+/// The number and the place of a copy, and the whole room after it.
+type Copy = ((usize, usize), Vec<u8>);
+
+/// What this program makes of a book in the new form or the old one, in so much room.
+fn copied(book: &[u8], wanted: Width, room: usize) -> Copy {
+    let mut out = vec![BEFORE; room];
+    let answer = match wanted {
+        Width::Six => plain::to_new(book, &mut out),
+        Width::Four => plain::to_old(book, &mut out),
+    };
+    ((answer.number as usize, answer.place), out)
+}
+
+/// The same of the second program.
+fn copied_second(book: &[u8], wanted: Width, room: usize) -> Copy {
+    let mut out = vec![BEFORE; room];
+    let answer = match wanted {
+        Width::Six => to_new(book, &mut out),
+        Width::Four => to_old(book, &mut out),
+    };
+    ((answer.number, answer.place), out)
+}
+
+/// Both programs copy a book alike, in any room, and run its other form alike if it has one.
+pub fn same_copies(name: &str, book: &[u8]) {
+    for wanted in WIDTHS {
+        for room in [0, BOOK_ROOM - 1, BOOK_ROOM, BOOK_ROOM + 9] {
+            let copy = copied(book, wanted, room);
+            let expected = copied_second(book, wanted, room);
+            assert!(copy == expected, "{name}: {:?} {:?}", copy.0, expected.0);
+        }
+        let ((number, length), out) = copied(book, wanted, BOOK_ROOM);
+        if number == 0 && out[..length] != *book {
+            same(name, &out[..length]);
+            let back = copied(&out[..length], wanted.other(), BOOK_ROOM);
+            assert_eq!(back.1[..back.0 .1], *book, "{name}");
+        }
     }
 }
 

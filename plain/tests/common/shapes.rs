@@ -4,8 +4,10 @@
 
 use super::common::book_of;
 use second::book::{self, Book};
+use second::pairs::Pair;
 use second::random::Random;
 use second::term::{variables, Atom, Question, Rule, Term};
+use second::width::{Width, WIDTHS};
 
 /// Books with many choices, by name.
 pub fn hard() -> Vec<(String, Vec<u8>)> {
@@ -141,6 +143,15 @@ pub fn rings() -> Vec<(String, Vec<u8>, Vec<u8>)> {
     rings
 }
 
+/// Two records of width 4 as a pair.
+pub fn pair((first, second): (Vec<u8>, Vec<u8>)) -> Pair {
+    Pair {
+        width: 4,
+        first,
+        second,
+    }
+}
+
 /// Two records of so many atoms of one relation over some variables.
 pub fn dense(random: &mut Random, atoms: usize) -> (Vec<u8>, Vec<u8>) {
     let places = random.between(2, 4);
@@ -163,8 +174,13 @@ pub fn dense(random: &mut Random, atoms: usize) -> (Vec<u8>, Vec<u8>) {
 /// A book in which most choices are between many: few relations, long heads, a question whose
 /// atoms hang together, now and then constants, answers and unknowns.
 pub fn crowded(random: &mut Random) -> Vec<u8> {
+    let width = *random.one_of(&WIDTHS);
+    let places = match width {
+        Width::Four => [1, 2, 2, 2, 3],
+        Width::Six => [1, 2, 2, 5, 6],
+    };
     let relations: Vec<usize> = (0..random.between(2, 3))
-        .map(|_| *random.one_of(&[1, 2, 2, 2, 3]))
+        .map(|_| *random.one_of(&places))
         .collect();
     let constants = *random.one_of(&[0, 0, 1, 2]);
     let mut crowd = Crowd {
@@ -180,6 +196,7 @@ pub fn crowded(random: &mut Random) -> Vec<u8> {
     let answer = crowd.answer(&atoms);
     let allowed = crowd.random.between(1, 4);
     book::write(&Book {
+        width,
         relations: crowd.relations,
         constants,
         rules,

@@ -3,7 +3,7 @@
 use borrow.Author.Needs.{needs}
 use native.Mathlib.Omega.{arith}
 use mathlib.Core.Path.{_≡_, refl, sym, _∙_, ap}
-use mathlib.Core.List.{_∷_}
+use mathlib.Core.List.{List, _∷_}
 use Prim.Native.Nat.{ℕ, _+_, _*_, _-_, _≤_}
 use lib.ListN.{length, set, drop, replicate, length-set}
 use lib.Seq.{paste, paste-zero}
@@ -14,11 +14,13 @@ use Rattle.covering.specs.Buffer.{heldIn, recordRoom}
 use Rattle.covering.proofs.Padded.{copied-held}
 use Rattle.reading.specs.declared.Header.{Header}
 use Rattle.reading.specs.Word.{byte}
-use Rattle.reading.specs.Header.{atoms, questionAt, answerRecords}
+use Rattle.reading.specs.Header.{new, formOf, atoms, questionAt, answerRecords}
+use Rattle.reading.specs.Verdict.{SoundBook}
 use Rattle.reading.proofs.Known.{records-told}
 use Rattle.reading.proofs.SoundBook.{sound-header, sound-long, stored-room}
 use Rattle.reading.proofs.SoundQuestion.{sound-question, sound-atoms, records-few}
-use Rattle.reading.proofs.QuestionRead.{joined-question}
+use Rattle.reading.proofs.QuestionRead.{joined-stored}
+use Rattle.reading.proofs.Forms.{new-size}
 use Rattle.book.proofs.question.Statement.{statement}
 use Rattle.book.proofs.question.Tie as tie
 
@@ -26,7 +28,7 @@ abbrev Inv-loop : tie.InvT-loop
 Inv-loop book q m n r₀ i₀ r i =
     (i ≤ n)
     × (length r ≡ recordRoom)
-    × (r ≡ paste ((answerRecords book + atoms book) ∷ replicate 60 255) 1 (drop (questionAt book) book) i)
+    × (r ≡ paste ((answerRecords book + atoms book) ∷ replicate 84 255) 1 (drop (questionAt book) book) i)
     × (q ≡ questionAt book)
 
 abbrev μ-loop : tie.MeasureT-loop
@@ -46,16 +48,24 @@ start c = ap (λ (h : Header). h .question) (c .before .read .ensures .is)
 
 few : (c : tie.After-answers Inv-loop μ-loop) → c .answers .result + c .before .read .result .atoms ≤ 9
 few c =
-    let s = c .before .before .before .pre in
+    let s = c .before .before .before .pre .0 in
     omega (arith, count c, sound-header _ s .few-atoms, records-few (c .before .before .before .args .book .now))
 
+-- where they end, of seven bytes each
+ends : (B : List ℕ) → SoundBook B → formOf B ≡ new → questionAt B + 7 * (answerRecords B + atoms B) ≡ length B
+ends B s e =
+    let sized = ap (λ (z : ℕ). z * (answerRecords B + atoms B)) (new-size B e) in
+    omega (arith, sized, sound-question B s .ends)
+
 within : (c : tie.After-answers Inv-loop μ-loop)
-    → c .before .read .result .question + 5 * (c .answers .result + c .before .read .result .atoms)
+    → c .before .read .result .question + 7 * (c .answers .result + c .before .read .result .atoms)
     ≤ length (c .before .before .before .args .book .now)
-within c = omega (arith, count c, start c, sound-header _ (c .before .before .before .pre) .ends)
+within c =
+    let begun = c .before .before .before in
+    omega (arith, count c, start c, ends (begun .args .book .now) (begun .pre .0) (begun .pre .1))
 
 read-requires : tie.Need-read-requires Inv-loop μ-loop
-read-requires c κs = sound-long _ (c .before .pre)
+read-requires c κs = sound-long _ (c .before .pre .0)
 
 answers-requires : tie.Need-answers-requires Inv-loop μ-loop
 answers-requires c κs =
@@ -79,9 +89,9 @@ loop-holds c =
     let B = c .before .before .before .before .args .book .now in (
       search needs,
       refl,
-      ap (λ (k : ℕ). k ∷ replicate 60 255) (count (c .before))
-          ∙ paste-zero ((answerRecords B + atoms B) ∷ replicate 60 255) 1 (drop (questionAt B) B),
-      omega (arith, start (c .before), sound-header B (c .before .before .before .before .pre)),
+      ap (λ (k : ℕ). k ∷ replicate 84 255) (count (c .before))
+          ∙ paste-zero ((answerRecords B + atoms B) ∷ replicate 84 255) 1 (drop (questionAt B) B),
+      omega (arith, start (c .before), sound-header B (c .before .before .before .before .pre .0)),
     )
 
 add-r : tie.Need-add-r Inv-loop μ-loop
@@ -112,7 +122,7 @@ loop-again c =
       search needs,
       length-set (here .r) (1 + here .i) _ ∙ here .inv .1,
       ap (λ (x : ℕ). set (here .r) (1 + here .i) (byte B (x + here .i))) (here .inv .3)
-          ∙ paste-next ((answerRecords B + atoms B) ∷ replicate 60 255) 1 B (questionAt B) (here .i) (here .r)
+          ∙ paste-next ((answerRecords B + atoms B) ∷ replicate 84 255) 1 B (questionAt B) (here .i) (here .r)
           (here .inv .2) (omega arith) (omega (arith, start done)),
       here .inv .3,
     )
@@ -121,18 +131,19 @@ returns : tie.Need-returns Inv-loop μ-loop
 returns c =
     let here = c .before .loop in
     let B = c .before .before .before .before .before .before .args .book .now in
-    let s = c .before .before .before .before .before .before .pre in
+    let s = c .before .before .before .before .before .before .pre .0 in
+    let e = c .before .before .before .before .before .before .pre .1 in
     let all = answerRecords B + atoms B in
     let m = count (c .before .before .before) in
     let l = c .loop-test .left in
-    let end : here .i ≡ all * 5 = omega (arith, here .inv .0) in
+    let end : here .i ≡ all * 7 = omega (arith, here .inv .0) in
     let q = sound-question B s in
     here .inv .2
-    ∙ ap (paste (all ∷ replicate 60 255) 1 (drop (questionAt B) B)) end
-    ∙ copied-held stored stored-apart B (questionAt B) all 60
-    (record { fits = omega (arith, q .ends); sound = sound-atoms B s stored (stored-room B s) (λ t. tt) })
+    ∙ ap (paste (all ∷ replicate 84 255) 1 (drop (questionAt B) B)) end
+    ∙ copied-held stored stored-apart B (questionAt B) all 84
+    (record { fits = omega (arith, ends B s e); sound = sound-atoms B s stored (stored-room B s e) (λ t. tt) })
     (omega (arith, q .few-atoms, records-few B))
-    ∙ ap (heldIn stored recordRoom) (sym (joined-question B s))
+    ∙ ap (heldIn stored recordRoom) (sym (joined-stored B s e))
 
 pub question-spec : {M : Type 1} → statement M
 question-spec =

@@ -3,9 +3,11 @@ use borrow.Author.Needs.{needs}
 use native.Mathlib.Omega.{arith}
 use mathlib.Core.Path.{_≡_}
 use mathlib.Core.List.{List}
-use Prim.Native.Nat.{ℕ, _+_, _*_}
+use Prim.Native.Nat.{ℕ, _+_}
 use Rattle.book.specs.declared.Parts.{Parts}
 use Rattle.reading.specs.Word.{byte}
+use Rattle.reading.specs.Book.{headAt}
+use Rattle.reading.proofs.Forms.{new-head}
 use Rattle.book.specs.Parts.{partsAt}
 use Rattle.book.proofs.rule_at.Statement.{statement}
 use Rattle.book.proofs.rule_at.Tie as tie
@@ -38,17 +40,20 @@ add-t11 : tie.Need-add-t11
 add-t11 c = search needs
 
 -- the parts by their four numbers
-parts-are : (B : List ℕ) (s : ℕ) {w x y z : ℕ} → w ≡ s + 2 → x ≡ byte B s → y ≡ s + 2 + 5 * byte B s
-    → z ≡ byte B (s + 1) → _≡_ {A = Parts} (record { body = w; bodies = x; head = y; heads = z }) (partsAt B s)
+parts-are : (B : List ℕ) (s : ℕ) {w x y z : ℕ} → w ≡ s + 2 → x ≡ byte B s → y ≡ headAt B s → z ≡ byte B (s + 1)
+    → _≡_ {A = Parts} (record { body = w; bodies = x; head = y; heads = z }) (partsAt B s)
 parts-are B s body bodies head heads = cc
 
 returns : tie.Need-returns
 returns c =
     let first = c .before .before in
-    let a = first .before .before .before .args in
+    let start = first .before .before .before in
+    let a = start .args in
+    let seven = new-head (a .book .now) (start .pre .1) (a .s) in
     let b = first .wide .ensures .0 in
     let h = c .wide2 .ensures .0 in
-    parts-are (a .book .now) (a .s) (omega arith) (omega (arith, b, h)) (omega (arith, b, h)) (omega (arith, b, h))
+    parts-are (a .book .now) (a .s) (omega arith) (omega (arith, b, h)) (omega (arith, b, seven))
+    (omega (arith, b, h))
 
 pub rule-at-spec : {M : Type 1} → statement M
 rule-at-spec =

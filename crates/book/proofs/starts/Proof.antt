@@ -6,7 +6,8 @@ use Prim.Native.Nat.{ℕ, _+_, _*_, _-_, _≤_, _<_}
 use lib.ListN.{length, getD, length-set}
 use Rattle.reading.specs.declared.Header.{Header}
 use Rattle.reading.specs.Header.{rules}
-use Rattle.reading.specs.Book.{ruleEnd, rulesStart, ruleStart}
+use Rattle.reading.specs.Book.{bodyCount, headCount, ruleEnd, rulesStart, ruleStart}
+use Rattle.reading.proofs.Forms.{new-rule-end}
 use Rattle.reading.proofs.After.{after-zero, after-next}
 use Rattle.book.proofs.Stores.{stored-upto, stored-other, first-only, others-zero}
 use Rattle.reading.proofs.SoundBook.{SoundRule, sound-rule, sound-header, sound-long}
@@ -29,7 +30,7 @@ count : (c : tie.After-read Inv-loop μ-loop) → c .read .result .rules ≡ rul
 count c = ap (λ (h : Header). h .rules) (c .read .ensures .is)
 
 start : (c : tie.After-read Inv-loop μ-loop) → c .read .result .start ≡ rulesStart (c .before .before .args .book .now)
-start c = ap (λ (h : Header). h .start) (c .read .ensures .is) ∙ sound-header _ (c .before .before .pre) .start-is
+start c = ap (λ (h : Header). h .start) (c .read .ensures .is) ∙ sound-header _ (c .before .before .pre .0) .start-is
 
 -- the rule of this turn
 here : (c : tie.In-loop Inv-loop μ-loop)
@@ -38,22 +39,32 @@ here c =
     let B = c .before .before .before .before .args .book .now in
     let l = c .loop-test .taken in
     subst (SoundRule B) (sym (c .before .loop .inv .2))
-    (sound-rule B (c .before .before .before .before .pre) (c .before .loop .k)
+    (sound-rule B (c .before .before .before .before .pre .0) (c .before .loop .k)
     (omega (arith, count (c .before .before))))
 
-within : (c : tie.In-loop Inv-loop μ-loop)
+-- it ends where its atoms of seven bytes end, within the book
+end : (c : tie.In-loop Inv-loop μ-loop)
     → ruleEnd (c .before .before .before .before .args .book .now) (c .before .loop .s)
+    ≡ c .before .loop .s + 2
+    + 7 * (bodyCount (c .before .before .before .before .args .book .now) (c .before .loop .s)
+    + headCount (c .before .before .before .before .args .book .now) (c .before .loop .s))
+end c = let start = c .before .before .before .before in new-rule-end (start .args .book .now) (start .pre .1) _
+
+within : (c : tie.In-loop Inv-loop μ-loop)
+    → c .before .loop .s + 2
+    + 7 * (bodyCount (c .before .before .before .before .args .book .now) (c .before .loop .s)
+    + headCount (c .before .before .before .before .args .book .now) (c .before .loop .s))
     ≤ length (c .before .before .before .before .args .book .now)
-within c = omega (arith, here c .ends, sound-header _ (c .before .before .before .before .pre) .ends)
+within c = omega (arith, end c, here c .ends, sound-header _ (c .before .before .before .before .pre .0) .ends)
 
 -- there is room for its end
 room : (c : tie.In-loop Inv-loop μ-loop) → c .before .loop .k + 1 < 33
 room c =
     let l = c .loop-test .taken in
-    omega (arith, count (c .before .before), sound-header _ (c .before .before .before .before .pre) .few-rules)
+    omega (arith, count (c .before .before), sound-header _ (c .before .before .before .before .pre .0) .few-rules)
 
 read-requires : tie.Need-read-requires Inv-loop μ-loop
-read-requires c κs = sound-long _ (c .before .pre)
+read-requires c κs = sound-long _ (c .before .pre .0)
 
 array-write-at : tie.Need-array-write-at Inv-loop μ-loop
 array-write-at c = search needs
@@ -112,8 +123,9 @@ loop-again : tie.Need-loop-again Inv-loop μ-loop
 loop-again c =
     let B = c .before .before .before .before .before .before .before .before .args .book .now in
     let here = c .before .before .before .before .before .loop in
-    let next = here .s + 2 + 5 * (c .before .before .wide .result + c .wide2 .result) in
-    let d : next ≡ ruleEnd B (here .s) = omega (arith, c .before .before .wide .ensures .0, c .wide2 .ensures .0) in
+    let next = here .s + 2 + 7 * (c .before .before .wide .result + c .wide2 .result) in
+    let d : next ≡ ruleEnd B (here .s) =
+    omega (arith, c .before .before .wide .ensures .0, c .wide2 .ensures .0, end (c .before .before .before .before)) in
     let e = d ∙ ap (ruleEnd B) (here .inv .2) ∙ sym (after-next B (rulesStart B) (here .k)) in
     let l = here .inv .1 in (
       search needs,

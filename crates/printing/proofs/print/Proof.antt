@@ -4,7 +4,7 @@ use native.Mathlib.Omega.{arith}
 use mathlib.Core.Path.{ap}
 use lib.ListN.{length}
 use Rattle.printing.specs.Printed.{ascii, line}
-use Rattle.printing.proofs.Putting.{put-as, then}
+use Rattle.covering.proofs.Putting.{put-as, then}
 use Rattle.printing.proofs.Results.{Words, refusal-text, union-text, union-length, stands-there}
 use Rattle.printing.proofs.print.Statement.{statement}
 use Rattle.printing.proofs.print.Tie as tie

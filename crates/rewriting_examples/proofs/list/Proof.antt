@@ -10,10 +10,10 @@ use Rattle.rewriting_examples.proofs.list.Tie as tie
 use Rattle.lister.specs.Counts.{mostChoices}
 
 abbrev Inv-loop : tie.InvT-loop
-Inv-loop question book rule from₀ from = from ≤ mostChoices
+Inv-loop question book rule from₀ rewriting₀ from rewriting = from ≤ mostChoices
 
 abbrev μ-loop : tie.MeasureT-loop
-μ-loop question book rule from₀ from = mostChoices - from
+μ-loop question book rule from₀ rewriting₀ from rewriting = mostChoices - from
 
 was-found : (b : Bool) → not b ≡ false → b ≡ true
 was-found true e = refl
@@ -21,13 +21,13 @@ was-found false e = sym e
 
 -- what was found is numbered from where it was asked on, and below the count of choices
 within : (c : tie.After-show Inv-loop μ-loop)
-    → (c .before .before .before .before .before .before .loop .from ≤ c .before .before .before .before .next .result .choice)
-    × (c .before .before .before .before .next .result .choice < mostChoices)
+    → (c .before .before .before .before .before .before .loop .from ≤ c .before .before .before .next .result .choice)
+    × (c .before .before .before .next .result .choice < mostChoices)
 within c =
-    let n = c .before .before .before .before in
-    let s = n .before .before .before .before .before in
+    let n = c .before .before .before in
+    let s = n .before .before .before .before .before .before in
     found-within (s .args .question .now) (s .args .book .now) (s .args .rule) (s .pre .0) (s .pre .1) _ (n .next .result)
-    (n .next .ensures) (was-found _ (c .before .before .before .if1 .left))
+    (n .next .ensures .answer) (was-found _ (c .before .before .if1 .left))
 
 loop-holds : tie.Need-loop-holds Inv-loop μ-loop
 loop-holds c = search needs

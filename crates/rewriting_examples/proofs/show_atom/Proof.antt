@@ -5,10 +5,10 @@ use Rattle.rewriting_examples.proofs.show_atom.Statement.{statement}
 use Rattle.rewriting_examples.proofs.show_atom.Tie as tie
 
 abbrev Inv-loop : tie.InvT-loop
-Inv-loop «record» i w₀ t7 t8 w = w ≤ 4
+Inv-loop «record» i w₀ t7 t8 w = w ≤ 6
 
 abbrev μ-loop : tie.MeasureT-loop
-μ-loop «record» i w₀ t7 t8 w = 4 - w
+μ-loop «record» i w₀ t7 t8 w = 6 - w
 
 slice-aggregate-put : tie.Need-slice-aggregate-put Inv-loop μ-loop
 slice-aggregate-put c = search needs

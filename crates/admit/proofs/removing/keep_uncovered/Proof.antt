@@ -24,7 +24,7 @@ abbrev turn : tie.In-loop Inv-loop μ-loop → tie.At-loop Inv-loop μ-loop
 turn t = t .before
 
 inside : (t : tie.In-loop Inv-loop μ-loop)
-    → turn t .loop .at + (1 + getD (turn t .loop .work) (turn t .loop .at) 0 * 5) ≤ length (turn t .loop .work)
+    → turn t .loop .at + (1 + getD (turn t .loop .work) (turn t .loop .at) 0 * 7) ≤ length (turn t .loop .work)
 inside t = within _ _ _ _ _ (turn t .loop .inv) (t .loop-test .taken)
 
 loop-holds : tie.Need-loop-holds Inv-loop μ-loop

@@ -16,7 +16,7 @@ use Rattle.cover.specs.Candidates.{foundOn}
 use Rattle.covering.specs.Record.{stored, atomsAt, questionOf, SoundRecord}
 use Rattle.exploration.specs.Held.{heldFrom, Standing}
 use Rattle.admit.specs.WorkingArray.{beforeCovering, coveredBy}
-use Rattle.admit.proofs.Finding.{maps-end, maps-hit, maps-miss, map-one, map-none, first-end, first-hit}
+use Rattle.admit.proofs.Finding.{maps-end, maps-hit, maps-miss, map-asked, map-none, first-end, first-hit}
 use Rattle.admit.proofs.Finding.{first-miss, by-end, by-hit, by-miss, on-nowhere, found-here, covers-is}
 use Rattle.cover.proofs.Maps.{searched-map, nowhere-map}
 use Rattle.exploration.proofs.Members.{count-from}
@@ -26,44 +26,47 @@ use Rattle.admit.proofs.searching.member_covering.Statement.{statement}
 use Rattle.admit.proofs.searching.member_covering.Tie as tie
 
 abbrev Inv-atoms : tie.InvT-atoms
-Inv-atoms work count rewriting map₀ w at i width member k₀ map k =
+Inv-atoms work count rewriting map₀ w there at i width member k₀ map k =
     (k ≤ w)
-    × (map ≡ replicate 64 255)
+    × (map ≡ replicate 96 255)
     × (firstMap (questionOf stored (drop at work)) (questionOf stored rewriting)
     ≡ firstOf (foundOn (questionOf stored (drop at work)) (questionOf stored rewriting) nowhere)
-    (atomsAt stored rewriting (1 + k * 5) (w - k)))
+    (atomsAt stored rewriting (1 + k * 7) (w - k)))
 
 abbrev Inv-members : tie.InvT-members
-Inv-members work count rewriting map₀ w at₀ i₀ map at i =
+Inv-members work count rewriting map₀ w there at₀ i₀ map at i =
     (i ≤ count)
     × Standing work at (count - i)
     × (beforeCovering covers (questionOf stored rewriting) (heldFrom work 8 count)
     ≡ i + beforeCovering covers (questionOf stored rewriting) (heldFrom work at (count - i)))
-    × (map ≡ replicate 64 255)
+    × (map ≡ replicate 96 255)
     × (coveredBy (questionOf stored rewriting) (heldFrom work 8 count)
     ≡ coveredBy (questionOf stored rewriting) (heldFrom work at (count - i)))
 
 abbrev μ-atoms : tie.MeasureT-atoms
-μ-atoms work count rewriting map₀ w at i width member k₀ map k = w - k
+μ-atoms work count rewriting map₀ w there at i width member k₀ map k = w - k
 
 abbrev μ-members : tie.MeasureT-members
-μ-members work count rewriting map₀ w at₀ i₀ map at i = count - i
+μ-members work count rewriting map₀ w there at₀ i₀ map at i = count - i
 
--- where the function began, from a turn whose member has atoms
-abbrev began : tie.Else2 Inv-atoms μ-atoms Inv-members μ-members → tie.Start Inv-atoms μ-atoms Inv-members μ-members
-began c = c .before .before .before .before .before .before .before .before
+-- where the function began, and where this turn did, from the loop over candidates
+abbrev start : tie.Else1 Inv-atoms μ-atoms Inv-members μ-members → tie.Start Inv-atoms μ-atoms Inv-members μ-members
+start c = c .before .before .before .before .before .before .before
+
+abbrev turn : tie.At-atoms Inv-atoms μ-atoms Inv-members μ-members → tie.Else1 Inv-atoms μ-atoms Inv-members μ-members
+turn c = c .before .before .before .before .before .before .before
 
 -- the member of this turn
 here : (c : tie.Else1 Inv-atoms μ-atoms Inv-members μ-members)
-    → Here (c .before .before .before .before .before .before .args .work .now) (c .before .members .at)
-    (c .before .before .before .before .before .before .args .count - (c .before .members .i + 1))
+    → Here (start c .args .work .now) (c .before .members .at)
+    (start c .args .count - (c .before .members .i + 1))
 here c = stands _ _ _ _ (c .if1 .left) (c .before .members .inv .1)
 
 -- it has an atom
 some : (c : tie.Else2 Inv-atoms μ-atoms Inv-members μ-members)
-    → 1 ≤ getD (drop (c .before .before .before .members .at) (began c .args .work .now)) 0 0
+    → 1 ≤ getD (drop (c .before .before .before .members .at) (start (c .before .before) .args .work .now)) 0 0
 some c =
-    omega (arith, count-from (began c .args .work .now) (c .before .before .before .members .at), c .if2 .left)
+    omega (arith, count-from (start (c .before .before) .args .work .now) (c .before .before .before .members .at), c .if2 .left)
 
 shared-slice-read-w : tie.Need-shared-slice-read-w Inv-atoms μ-atoms Inv-members μ-members
 shared-slice-read-w c = search needs
@@ -71,9 +74,12 @@ shared-slice-read-w c = search needs
 cast-w : tie.Need-cast-w Inv-atoms μ-atoms Inv-members μ-members
 cast-w c = search needs
 
+relations-requires : tie.Need-relations-requires Inv-atoms μ-atoms Inv-members μ-members
+relations-requires c κs = search needs
+
 members-holds : tie.Need-members-holds Inv-atoms μ-atoms Inv-members μ-members
 members-holds c =
-    let s = c .before .before .before .before in
+    let s = c .before .before .before .before .before in
     (search needs, rw sub-zero (s .pre .1), rw (sub-zero, zero-add), s .pre .3, rw sub-zero refl)
 
 shared-slice-read-if2 : tie.Need-shared-slice-read-if2 Inv-atoms μ-atoms Inv-members μ-members
@@ -94,22 +100,29 @@ part-member-start c = omega (arith, here (c .before .before .before .before))
 part-member-end : tie.Need-part-member-end Inv-atoms μ-atoms Inv-members μ-members
 part-member-end c = search needs
 
+first-asked-requires : tie.Need-first-asked-requires Inv-atoms μ-atoms Inv-members μ-members
+first-asked-requires c κs =
+    let b = c .before .before .before .before .before in
+    subst (SoundRecord stored) (sym (part-is (start b .args .work .now) (b .before .members .at))) (here b .sound)
+
 atoms-holds : tie.Need-atoms-holds Inv-atoms μ-atoms Inv-members μ-members
 atoms-holds c =
-    let e = c .before .before .before in
-    (search needs, e .before .before .before .members .inv .3, map-one _ _ (some e))
+    let e = c .before .before .before .before in
+    let b = e .before .before in
+    let part = part-is (start b .args .work .now) (b .before .members .at) in
+    let asked = map-asked _ _ (some e) (b .before .before .relations .ensures) _ _ part (c .first-asked .ensures) in
+    (asked .0, b .before .members .inv .3, asked .1)
 
 covers-on-requires : tie.Need-covers-on-requires Inv-atoms μ-atoms Inv-members μ-members
 covers-on-requires c κs =
-    let e = c .before .before .before .before .before .before in
-    let b = e .before .before in
-    let a = b .before .before .before .before .before .before in
+    let b = turn (c .before .before) in
+    let a = start b in
     let part = sym (part-is (a .args .work .now) (b .before .members .at)) in (
       subst (SoundRecord stored) part (here b .sound),
       a .pre .2,
       ap length (c .before .before .atoms .inv .1),
       search needs,
-      subst (λ (M : List ℕ). 1 ≤ getD M 0 0) part (some e),
+      subst (λ (M : List ℕ). 1 ≤ getD M 0 0) part (some (c .before .before .before .before .before .before .before)),
     )
 
 add-k : tie.Need-add-k Inv-atoms μ-atoms Inv-members μ-members
@@ -122,8 +135,8 @@ atoms-again : tie.Need-atoms-again Inv-atoms μ-atoms Inv-members μ-members
 atoms-again c =
     let d = c .before .before .before in
     let l = d .before .before .before in
-    let b = l .before .before .before .before .before .before in
-    let a = b .before .before .before .before .before .before .args in
+    let b = turn l in
+    let a = start b .args in
     let s = on-nowhere _ _ _ _ _ _ _ (l .atoms .inv .1) (part-is (a .work .now) (b .before .members .at)) (d .covers-on .ensures) in (
       search needs,
       s .back (c .if3 .left),
@@ -131,7 +144,7 @@ atoms-again c =
     )
 
 add-at : tie.Need-add-at Inv-atoms μ-atoms Inv-members μ-members
-add-at c = omega (arith, here (c .before .before .before .before .before .before .before), c .before .before .before .width .ensures)
+add-at c = omega (arith, here (turn (c .before)), c .before .before .before .before .width .ensures)
 
 add-i : tie.Need-add-i Inv-atoms μ-atoms Inv-members μ-members
 add-i c = search needs
@@ -141,8 +154,8 @@ members-less c = search needs
 
 members-again : tie.Need-members-again Inv-atoms μ-atoms Inv-members μ-members
 members-again c =
-    let b = c .before .before .before .before .before .before .before in
-    let a = b .before .before .before .before .before .before .args in
+    let b = turn (c .before) in
+    let a = start b .args in
     let W = a .work .now in
     let P = questionOf stored (a .rewriting .now) in
     let at = b .before .members .at in
@@ -156,7 +169,7 @@ members-again c =
     × (beforeCovering covers P (heldFrom W at (n - i))
     ≡ suc (beforeCovering covers P (heldFrom W (at + k) (n - (i + 1)))))
     × (coveredBy P (heldFrom W at (n - i)) ≡ coveredBy P (heldFrom W (at + k) (n - (i + 1)))))
-    (sym (c .before .before .before .width .ensures)) (
+    (sym (c .before .before .before .before .width .ensures)) (
       here b .rest,
       first-miss covers P W at i n (b .if1 .left) (covers-is _ _ ∙ ap isSome none-here),
       by-miss P W at i n (b .if1 .left) (ap isSome none-here),
@@ -164,49 +177,48 @@ members-again c =
     (search needs, next .0, omega (arith, b .before .members .inv .2, next .1), c .before .atoms .inv .1, b .before .members .inv .4 ∙ next .2)
 
 same-length : tie.Need-same-length Inv-atoms μ-atoms Inv-members μ-members
-same-length c = ap length (c .before .members .inv .3 ∙ sym (c .before .before .before .before .before .before .pre .3))
+same-length c = ap length (c .before .members .inv .3 ∙ sym (c .before .before .before .before .before .before .before .pre .3))
 
 returns : tie.Need-returns Inv-atoms μ-atoms Inv-members μ-members
 returns c =
-    let a = c .before .before .before .before .before .before .args in
+    let a = c .before .before .before .before .before .before .before .args in
     let e =
     first-end covers (questionOf stored (a .rewriting .now)) (a .work .now) (c .before .members .at)
     (c .before .members .i) (a .count) (c .if1 .taken) in
     let f =
     by-end (questionOf stored (a .rewriting .now)) (a .work .now) (c .before .members .at)
     (c .before .members .i) (a .count) (c .if1 .taken) in
-    (omega (arith, c .before .members .inv .2, e), c .before .members .inv .3 ∙ ap (mapOr 64) (sym (c .before .members .inv .4 ∙ f)))
+    (omega (arith, c .before .members .inv .2, e), c .before .members .inv .3 ∙ ap (mapOr 96) (sym (c .before .members .inv .4 ∙ f)))
 
 same-length-2 : tie.Need-same-length-2 Inv-atoms μ-atoms Inv-members μ-members
 same-length-2 c =
-    let m = c .before .before .before in
-    ap length (m .members .inv .3 ∙ sym (m .before .before .before .before .before .pre .3))
+    let b = c .before .before in
+    ap length (b .before .members .inv .3 ∙ sym (start b .pre .3))
 
 returns-2 : tie.Need-returns-2 Inv-atoms μ-atoms Inv-members μ-members
 returns-2 c =
     let b = c .before .before in
-    let a = b .before .before .before .before .before .before .args in
+    let a = start b .args in
     let at = b .before .members .at in
     let one = map-none (drop at (a .work .now)) (a .rewriting .now) (count-from (a .work .now) at ∙ c .if2 .taken) in
     let e =
     first-hit covers (questionOf stored (a .rewriting .now)) (a .work .now) at _ _ (b .if1 .left) (covers-is _ _ ∙ ap isSome one) in
     let f =
     by-hit (questionOf stored (a .rewriting .now)) (a .work .now) at _ _ (b .if1 .left) (ap isSome one) in
-    (omega (arith, b .before .members .inv .2, e), b .before .members .inv .3 ∙ sym (nowhere-map 64) ∙ ap (mapOr 64) (sym (b .before .members .inv .4 ∙ f ∙ one)))
+    (omega (arith, b .before .members .inv .2, e), b .before .members .inv .3 ∙ sym (nowhere-map 96) ∙ ap (mapOr 96) (sym (b .before .members .inv .4 ∙ f ∙ one)))
 
 same-length-3 : tie.Need-same-length-3 Inv-atoms μ-atoms Inv-members μ-members
 same-length-3 c =
     let d = c .before .before .before in
     let l = d .before .before .before in
-    let b = l .before .before .before .before .before .before in
-    d .covers-on .kept .1 .1 .0 ∙ ap length (l .atoms .inv .1 ∙ sym (b .before .before .before .before .before .before .pre .3))
+    d .covers-on .kept .1 .1 .0 ∙ ap length (l .atoms .inv .1 ∙ sym (start (turn l) .pre .3))
 
 returns-3 : tie.Need-returns-3 Inv-atoms μ-atoms Inv-members μ-members
 returns-3 c =
     let d = c .before .before .before in
     let l = d .before .before .before in
-    let b = l .before .before .before .before .before .before in
-    let a = b .before .before .before .before .before .before .args in
+    let b = turn l in
+    let a = start b .args in
     let s = on-nowhere _ _ _ _ _ _ _ (l .atoms .inv .1) (part-is (a .work .now) (b .before .members .at)) (d .covers-on .ensures) in
     let yes = found-here s ∙ c .if3 .taken in
     let one = l .atoms .inv .2 ∙ maps-hit _ _ _ _ (d .before .before .atoms-test .left) yes in
@@ -217,7 +229,7 @@ returns-3 c =
     by-hit (questionOf stored (a .rewriting .now)) (a .work .now) (b .before .members .at) _ _ (b .if1 .left) (ap isSome one ∙ yes) in (
       omega (arith, b .before .members .inv .2, e),
       searched-map _ _ _ (d .covers-on .kept .1 .1 .0 ∙ ap length (l .atoms .inv .1)) s
-          ∙ ap (mapOr 64) (sym (b .before .members .inv .4 ∙ f ∙ one)),
+          ∙ ap (mapOr 96) (sym (b .before .members .inv .4 ∙ f ∙ one)),
     )
 
 pub member-covering-spec : {M : Type 1} → statement M
@@ -230,6 +242,7 @@ member-covering-spec =
     μ-members
     shared-slice-read-w
     cast-w
+    relations-requires
     members-holds
     shared-slice-read-if2
     shared-slice-read-width
@@ -237,6 +250,7 @@ member-covering-spec =
     sub-member
     part-member-start
     part-member-end
+    first-asked-requires
     atoms-holds
     covers-on-requires
     add-k

@@ -1,12 +1,13 @@
--- `admit::working::move_down` meets its contract. The loop's invariant: so many of the bytes are moved down; each is
--- read before it is written over, since it stands no lower than where it goes. The measure is the number of bytes left.
+-- `admit::working::move_down` meets its contract. Bytes that stand where they go are moved by doing nothing. The loop's
+-- invariant: so many of the bytes are moved down; each is read before it is written over, since it stands no lower than
+-- where it goes. The measure is the number of bytes left.
 use borrow.Author.Needs.{needs}
 use native.Mathlib.Omega.{arith}
 use mathlib.Core.Path.{_≡_, refl, sym, ap, ap₂, _∙_}
-use mathlib.Core.List.{List, append-assoc}
+use mathlib.Core.List.{List, _++_, append-assoc}
 use Prim.Native.Nat.{ℕ, _+_, _-_, _≤_, _<_}
-use lib.ListN.{length, set, length-set, length-drop, getD, take, drop}
-use lib.Seq.{paste, paste-zero, getD-drop}
+use lib.ListN.{length, set, length-set, length-drop, getD, take, drop, take-append-drop}
+use lib.Seq.{paste, paste-zero, getD-drop, drop-drop}
 use Rattle.covering.proofs.Slices.{paste-more, paste-past}
 use Rattle.admit.proofs.working.move_down.Statement.{statement}
 use Rattle.admit.proofs.working.move_down.Tie as tie
@@ -18,9 +19,18 @@ Inv-loop work₀ from to width i₀ work i =
 abbrev μ-loop : tie.MeasureT-loop
 μ-loop work₀ from to width i₀ work i = width - i
 
+-- a list is its first n elements, the next k, and the rest
+in-three : (W : List ℕ) (n k : ℕ) → W ≡ take n W ++ (take k (drop n W) ++ drop (n + k) W)
+in-three W n k = sym (rw (← drop-drop k n W, take-append-drop, take-append-drop) refl)
+
+returns : tie.Need-returns Inv-loop μ-loop
+returns c =
+    let a = c .before .args in
+    rw (← c .if1 .taken) (in-three (a .work .now) (a .to) (a .width))
+
 loop-holds : tie.Need-loop-holds Inv-loop μ-loop
 loop-holds c =
-    let a = c .args in
+    let a = c .before .args in
     (search needs, refl, paste-zero (a .work .now) (a .to) (drop (a .from) (a .work .now)))
 
 add-work : tie.Need-add-work Inv-loop μ-loop
@@ -44,7 +54,7 @@ loop-less c = search needs
 loop-again : tie.Need-loop-again Inv-loop μ-loop
 loop-again c =
     let l = c .before .before in
-    let a = l .before .args in
+    let a = l .before .before .args in
     let W = a .work .now in
     let s = drop (a .from) W in
     let i = l .loop .i in
@@ -64,10 +74,10 @@ loop-again c =
 same-length : tie.Need-same-length Inv-loop μ-loop
 same-length c = search needs
 
-returns : tie.Need-returns Inv-loop μ-loop
-returns c =
+returns-2 : tie.Need-returns-2 Inv-loop μ-loop
+returns-2 c =
     let l = c .before in
-    let a = l .before .args in
+    let a = l .before .before .args in
     let W = a .work .now in
     let end : l .loop .i ≡ a .width = omega arith in
     l .loop .inv .2
@@ -80,6 +90,7 @@ move-down-spec =
     (tie.spec
     Inv-loop
     μ-loop
+    returns
     loop-holds
     add-work
     slice-read-work
@@ -89,4 +100,4 @@ move-down-spec =
     loop-less
     loop-again
     same-length
-    returns)
+    returns-2)

@@ -1,16 +1,16 @@
 -- `cover::desk::covers_record` meets its contract: where both have answer records or neither has, they and the atoms are
--- one conjunction.
+-- one conjunction, which a widened record holds.
 use borrow.Author.Needs.{needs}
 use native.Mathlib.Omega.{arith}
-use mathlib.Core.Path.{_≡_, sym, _∙_, ap, ap₂, subst}
-use Prim.Native.Nat.{ℕ, _+_, _≤_}
-use lib.ListN.{length, getD}
-use Rattle.covering.specs.Asking.{records}
+use mathlib.Core.Path.{_≡_, sym, _∙_, ap, ap₂}
+use Prim.Native.Nat.{ℕ, _≤_}
+use lib.ListN.{length}
+use Rattle.covering.specs.Asking.{records, joined}
 use Rattle.covering.specs.Search.{findMap, firstMap}
-use Rattle.covering.specs.Record.{desk, stored, askingOf, atomsAt}
-use Rattle.covering.specs.Buffer.{AtomsIn}
-use Rattle.covering.proofs.Bytes.{Passed, record-passed}
-use Rattle.covering.proofs.DeskRecords.{desk-few, desk-free, desk-within, desk-joined, desk-records}
+use Rattle.covering.specs.Record.{desk, stored, answers, askingOf, Fits}
+use Rattle.covering.proofs.Bytes.{Passed, record-passed, desk-passed, width-least, width-most}
+use Rattle.covering.proofs.DeskRecords.{desk-free, desk-fits, desk-records}
+use Rattle.covering.proofs.Within.{held-within}
 use Rattle.covering.proofs.AnsweredCovers.{same-records, other-records}
 use Rattle.cover.specs.HeldMap.{partOf}
 use Rattle.cover.proofs.Maps.{part-nowhere}
@@ -19,71 +19,82 @@ use Rattle.cover.proofs.desk.covers_record.Statement.{statement}
 use Rattle.cover.proofs.desk.covers_record.Tie as tie
 
 -- the two records
-first-passed : (s : tie.Start) → Passed desk (s .args .first .now)
-first-passed s = record-passed desk _ (s .pre .0)
+some-place : (s : tie.Start) → 1 ≤ s .args .w
+some-place s = omega (arith, width-least (s .args .w) (desk-passed (s .args .w) (s .args .first .now) (s .pre .0) .0))
 
-second-passed : (s : tie.Start) → Passed desk (s .args .second .now)
-second-passed s = record-passed desk _ (s .pre .1)
+few-places : (s : tie.Start) → s .args .w ≤ 6
+few-places s = width-most (s .args .w) (desk-passed (s .args .w) (s .args .first .now) (s .pre .0) .0)
 
--- the counts
-abbrev start : tie.After-shared-slice-known3 → tie.Start
-start c = c .before .before .before .before .before .before .before
+first-passed : (s : tie.Start) → Passed (desk (s .args .w)) (s .args .first .now)
+first-passed s =
+    record-passed (desk (s .args .w)) (s .args .first .now) (desk-passed (s .args .w) (s .args .first .now) (s .pre .0) .1)
 
-first-few : (c : tie.After-shared-slice-known3)
-    → c .before .before .before .answers .result + getD (start c .args .first .now) 0 0 ≤ 12
-first-few c = omega (arith, c .before .before .before .answers .ensures, desk-few _ (first-passed (start c)))
+second-passed : (s : tie.Start) → Passed (desk (s .args .w)) (s .args .second .now)
+second-passed s =
+    record-passed (desk (s .args .w)) (s .args .second .now) (desk-passed (s .args .w) (s .args .second .now) (s .pre .1) .1)
 
-second-few : (c : tie.After-shared-slice-known3)
-    → c .before .before .answers2 .result + getD (start c .args .second .now) 0 0 ≤ 12
-second-few c = omega (arith, c .before .before .answers2 .ensures, desk-few _ (second-passed (start c)))
+first-fits : (s : tie.Start) → Fits stored (joined (askingOf (desk (s .args .w)) (s .args .first .now)))
+first-fits s = desk-fits (s .args .w) (some-place s) (s .args .first .now) (first-passed s) (few-places s)
+
+second-fits : (s : tie.Start) → Fits stored (joined (askingOf (desk (s .args .w)) (s .args .second .now)))
+second-fits s = desk-fits (s .args .w) (some-place s) (s .args .second .now) (second-passed s) (few-places s)
+
+-- how many answer records each has
+first-answers : (s : tie.Start)
+    → records (askingOf (desk (s .args .w)) (s .args .first .now) .answer) ≡ answers (s .args .first .now)
+first-answers s = desk-records (s .args .w) (some-place s) (s .args .first .now) (first-passed s)
+
+second-answers : (s : tie.Start)
+    → records (askingOf (desk (s .args .w)) (s .args .second .now) .answer) ≡ answers (s .args .second .now)
+second-answers s = desk-records (s .args .w) (some-place s) (s .args .second .now) (second-passed s)
 
 answers-requires : tie.Need-answers-requires
 answers-requires c κs = search needs
 
 answers-requires-2 : tie.Need-answers-requires-2
-answers-requires-2 c = search needs
+answers-requires-2 c κs = search needs
 
 returns : tie.Need-returns
 returns c =
     let b = c .before in
     let s = b .before .before .before .before .before in
     not-found _ _
-    (other-records (askingOf desk (s .args .first .now)) (askingOf desk (s .args .second .now))
+    (other-records (askingOf (desk (s .args .w)) (s .args .first .now)) (askingOf (desk (s .args .w)) (s .args .second .now))
     (λ e.
     c .if1 .taken
-    (b .before .answers .ensures
-    ∙ sym (desk-records _ (first-passed s))
-    ∙ e
-    ∙ desk-records _ (second-passed s)
-    ∙ sym (b .answers2 .ensures))))
+    (b .before .answers .ensures ∙ sym (first-answers s) ∙ e ∙ second-answers s ∙ sym (b .answers2 .ensures))))
 
-shared-slice-read-n : tie.Need-shared-slice-read-n
-shared-slice-read-n c = omega (arith, first-passed (start c) .exact)
+widened-requires : tie.Need-widened-requires
+widened-requires c κs = c .before .before .before .before .before .before .pre .0
 
-add-n : tie.Need-add-n
-add-n c = omega (arith, first-few c)
+widened-requires-2 : tie.Need-widened-requires-2
+widened-requires-2 c κs = c .before .before .before .before .before .before .before .pre .1
+
+array-read-n : tie.Need-array-read-n
+array-read-n c = search needs
 
 cast-n : tie.Need-cast-n
-cast-n c = omega (arith, first-few c)
+cast-n c = search needs
 
-shared-slice-read-w : tie.Need-shared-slice-read-w
-shared-slice-read-w c = omega (arith, second-passed (start (c .before)) .exact)
+array-read-m : tie.Need-array-read-m
+array-read-m c = search needs
 
-add-w : tie.Need-add-w
-add-w c = omega (arith, second-few (c .before))
+cast-m : tie.Need-cast-m
+cast-m c = search needs
 
-cast-w : tie.Need-cast-w
-cast-w c = omega (arith, second-few (c .before))
+slice-aggregate-place-next : tie.Need-slice-aggregate-place-next
+slice-aggregate-place-next c = search needs
+
+slice-aggregate-place-next-2 : tie.Need-slice-aggregate-place-next-2
+slice-aggregate-place-next-2 c = search needs
 
 place-next-requires : tie.Need-place-next-requires
 place-next-requires c κs =
-    let s = start (c .before .before) in
-    let b = c .before .before .before .before in (
+    let d = c .before .before .before in
+    let s = d .before .before .before .before .before .before .before .before in (
       ap length (s .pre .2),
-      subst (λ (a : ℕ). AtomsIn stored (s .args .first .now) 1 (a + getD (s .args .first .now) 0 0))
-          (sym (b .before .answers .ensures)) (desk-within _ (first-passed s)),
-      subst (λ (a : ℕ). AtomsIn stored (s .args .second .now) 1 (a + getD (s .args .second .now) 0 0))
-          (sym (b .answers2 .ensures)) (desk-within _ (second-passed s)) .fits,
+      held-within _ _ (first-fits s) (d .before .widened .ensures) .0,
+      held-within _ _ (second-fits s) (d .widened2 .ensures) .0 .fits,
     )
 
 same-length : tie.Need-same-length
@@ -93,26 +104,29 @@ returns-2 : tie.Need-returns-2
 unfolding firstMap
 returns-2 c =
     let n = c .before .before in
-    let k = n .before .before .before in
-    let s = start k in
-    let b = k .before .before in
-    let F = s .args .first .now in
-    let S = s .args .second .now in
-    let same : records (askingOf desk F .answer) ≡ records (askingOf desk S .answer) =
+    let d = n .before .before .before .before in
+    let i = d .before .before in
+    let s = i .before .before .before .before .before .before in
+    let F = askingOf (desk (s .args .w)) (s .args .first .now) in
+    let S = askingOf (desk (s .args .w)) (s .args .second .now) in
+    let same : records (F .answer) ≡ records (S .answer) =
     omega (
       arith,
-      desk-records F (first-passed s),
-      desk-records S (second-passed s),
-      b .before .answers .ensures,
-      b .answers2 .ensures,
-      k .before .if1 .left,
+      first-answers s,
+      second-answers s,
+      i .before .before .answers .ensures,
+      i .before .answers2 .ensures,
+      i .if1 .left,
     ) in
     let e =
-    ap₂ (λ (a e : ℕ). findMap (atomsAt stored F 1 (a + getD F 0 0)) (atomsAt stored S 1 (e + getD S 0 0)) (partOf (s .args .map .now)))
-    (b .before .answers .ensures) (b .answers2 .ensures)
-    ∙ ap₂ (λ A B. findMap A B (partOf (s .args .map .now))) (sym (desk-joined F (first-passed s))) (sym (desk-joined S (second-passed s)))
-    ∙ ap (findMap _ _) (ap partOf (s .pre .2) ∙ part-nowhere 64)
-    ∙ sym (same-records (askingOf desk F) (askingOf desk S) (desk-free S (second-passed s)) same) in
+    ap₂ (λ A B. findMap A B (partOf (s .args .map .now)))
+    (held-within _ _ (first-fits s) (d .before .widened .ensures) .1)
+    (held-within _ _ (second-fits s) (d .widened2 .ensures) .1)
+    ∙ ap (findMap _ _) (ap partOf (s .pre .2) ∙ part-nowhere 96)
+    ∙ sym
+    (same-records F S
+    (desk-free (s .args .w) (some-place s) (s .args .second .now) (second-passed s))
+    same) in
     searched-as _ _ _ _ _ e (n .place-next .ensures)
 
 pub covers-record-spec : {M : Type 1} → statement M
@@ -122,12 +136,14 @@ covers-record-spec =
     answers-requires
     answers-requires-2
     returns
-    shared-slice-read-n
-    add-n
+    widened-requires
+    widened-requires-2
+    array-read-n
     cast-n
-    shared-slice-read-w
-    add-w
-    cast-w
+    array-read-m
+    cast-m
+    slice-aggregate-place-next
+    slice-aggregate-place-next-2
     place-next-requires
     same-length
     returns-2)

@@ -3,7 +3,6 @@ use borrow.Author.Needs.{needs}
 use native.Mathlib.Omega.{arith}
 use mathlib.Core.Path.{_≡_, sym, ap₂, _∙_}
 use Prim.Native.Nat.{ℕ}
-use Rattle.covering.specs.Record.{desk}
 use Rattle.covering.proofs.Answers.{kept-first, kept-second, kept-neither}
 use Rattle.cover.proofs.desk.keep.Statement.{statement}
 use Rattle.cover.proofs.desk.keep.Tie as tie
@@ -17,12 +16,12 @@ kept-requires c κs = search needs
 
 returns : tie.Need-returns
 returns c =
-    let e = kept-first desk _ _ (sym (c .before .kept .ensures .0) ∙ c .if1 .taken) in
+    let e = kept-first _ _ _ (sym (c .before .kept .ensures .0) ∙ c .if1 .taken) in
     record { bytes = rw e; place = rw e }
 
 returns-2 : tie.Need-returns-2
 returns-2 c =
-    let e = kept-second desk _ _ (sym (c .before .before .kept .ensures .0) ∙ c .if2 .taken) in
+    let e = kept-second _ _ _ (sym (c .before .before .kept .ensures .0) ∙ c .if2 .taken) in
     record { bytes = rw e; place = rw e }
 
 slice-aggregate-result : tie.Need-slice-aggregate-result
@@ -31,7 +30,7 @@ slice-aggregate-result c = search needs
 returns-3 : tie.Need-returns-3
 returns-3 c =
     let k = c .before .before .before .kept .ensures .0 in
-    let e = kept-neither desk _ _ (rw k at (c .before .before .if1 .left)) (rw k at (c .before .if2 .left)) in
+    let e = kept-neither _ _ _ (rw k at (c .before .before .if1 .left)) (rw k at (c .before .if2 .left)) in
     record { bytes = rw e; place = rw e (same-place (omega arith) (omega arith)) }
 
 pub keep-spec : {M : Type 1} → statement M

@@ -1,7 +1,6 @@
 -- `cover::desk::kept` meets its contract: the two answers say which record is kept, and by which map.
 use borrow.Author.Needs.{needs}
 use mathlib.Core.Path.{sym, ap, _∙_}
-use Rattle.covering.specs.Record.{desk}
 use Rattle.covering.specs.Desk.{chosenNumber, keptAnswer}
 use Rattle.covering.proofs.Answers.{keeps-first, keeps-second, keeps-neither, map-first, map-second, map-neither}
 use Rattle.cover.proofs.desk.kept.Statement.{statement}
@@ -14,8 +13,8 @@ returns : tie.Need-returns
 unfolding keptAnswer
 returns c =
     let t = c .before .before .before .covers .ensures in
-    let e = keeps-first desk _ _ (sym (t .0) ∙ c .before .if1 .taken) in
-    (sym (ap chosenNumber e), t .1 ∙ sym (map-first desk _ _ e))
+    let e = keeps-first _ _ _ (sym (t .0) ∙ c .before .if1 .taken) in
+    (sym (ap chosenNumber e), t .1 ∙ sym (map-first _ _ _ e))
 
 covers-requires-2 : tie.Need-covers-requires-2
 covers-requires-2 c = search needs
@@ -25,17 +24,21 @@ unfolding keptAnswer
 returns-2 c =
     let b = c .before .before .before in
     let n = rw (b .before .before .before .covers .ensures .0) at (b .before .if1 .left) in
-    let e = keeps-second desk _ _ n (sym (b .covers2 .ensures .0) ∙ c .before .if2 .taken) in
-    (sym (ap chosenNumber e), b .covers2 .ensures .1 ∙ sym (map-second desk _ _ e))
+    let e = keeps-second _ _ _ n (sym (b .covers2 .ensures .0) ∙ c .before .if2 .taken) in
+    (sym (ap chosenNumber e), b .covers2 .ensures .1 ∙ sym (map-second _ _ _ e))
+
+no-map-requires : tie.Need-no-map-requires
+no-map-requires c κs = search needs
 
 returns-3 : tie.Need-returns-3
 unfolding keptAnswer
 returns-3 c =
-    let b = c .before .before in
+    let i = c .before in
+    let b = i .before .before in
     let n = rw (b .before .before .before .covers .ensures .0) at (b .before .if1 .left) in
-    let m = rw (b .covers2 .ensures .0) at (c .if2 .left) in
-    let e = keeps-neither desk _ _ n m in
-    (sym (ap chosenNumber e), sym (map-neither desk _ _ e))
+    let m = rw (b .covers2 .ensures .0) at (i .if2 .left) in
+    let e = keeps-neither _ _ _ n m in
+    (sym (ap chosenNumber e), c .no-map .ensures ∙ sym (map-neither _ _ _ e))
 
 pub kept-spec : {M : Type 1} → statement M
 kept-spec =
@@ -45,4 +48,5 @@ kept-spec =
     returns
     covers-requires-2
     returns-2
+    no-map-requires
     returns-3)

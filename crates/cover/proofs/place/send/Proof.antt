@@ -9,10 +9,10 @@ use Rattle.cover.proofs.place.send.Statement.{statement}
 use Rattle.cover.proofs.place.send.Tie as tie
 
 abbrev Inv-loop : tie.InvT-loop
-Inv-loop first second map₀ i k before₀ j₀ map before j = (j ≤ 4) × (map ≡ sentTo map₀ first second i k j) × HadBefore map₀ first second i k j before
+Inv-loop first second map₀ i k before₀ j₀ map before j = (j ≤ 6) × (map ≡ sentTo map₀ first second i k j) × HadBefore map₀ first second i k j before
 
 abbrev μ-loop : tie.MeasureT-loop
-μ-loop first second map₀ i k before₀ j₀ map before j = 4 - j
+μ-loop first second map₀ i k before₀ j₀ map before j = 6 - j
 
 loop-holds : tie.Need-loop-holds Inv-loop μ-loop
 loop-holds c = (omega arith, sym (sent-none _ _ _ _ _), had-none _ _ _ _ _ _ refl)
@@ -60,7 +60,7 @@ same-length c =
 returns : tie.Need-returns Inv-loop μ-loop
 returns c =
     let l = c .before in
-    let e : l .loop .j ≡ 4 = omega arith in
+    let e : l .loop .j ≡ 6 = omega arith in
     (rw (← e) (l .loop .inv .1), rw (← e) (l .loop .inv .2))
 
 pub send-spec : {M : Type 1} → statement M

@@ -9,7 +9,7 @@ use Rattle.cover.proofs.place.send_term.Statement.{statement}
 use Rattle.cover.proofs.place.send_term.Tie as tie
 
 returns : tie.Need-returns
-returns c = (sym (put-constant _ _ _ (c .if1 .taken)), rw (le-ltb _ 64 (c .if1 .taken)) refl)
+returns c = (sym (put-constant _ _ _ (c .if1 .taken)), rw (le-ltb _ 96 (c .if1 .taken)) refl)
 
 slice-read-had : tie.Need-slice-read-had
 slice-read-had c = omega arith
@@ -25,14 +25,14 @@ same-length c =
 returns-2 : tie.Need-returns-2
 returns-2 c =
     let a = c .before .before .before .args in
-    let v : a .t < 64 = omega arith in
-    (sym (put-new _ _ _ v (c .if2 .taken)), rw (lt-ltb (a .t) 64 v) refl)
+    let v : a .t < 96 = omega arith in
+    (sym (put-new _ _ _ v (c .if2 .taken)), rw (lt-ltb (a .t) 96 v) refl)
 
 returns-3 : tie.Need-returns-3
 returns-3 c =
     let a = c .before .before .before .args in
-    let v : a .t < 64 = omega arith in
-    (sym (put-old _ _ _ (c .if2 .left)), rw (lt-ltb (a .t) 64 v) refl)
+    let v : a .t < 96 = omega arith in
+    (sym (put-old _ _ _ (c .if2 .left)), rw (lt-ltb (a .t) 96 v) refl)
 
 pub send-term-spec : {M : Type 1} → statement M
 send-term-spec =

@@ -10,7 +10,7 @@ use Rattle.cover.proofs.place.take_back.Statement.{statement}
 use Rattle.cover.proofs.place.take_back.Tie as tie
 
 abbrev Inv-loop : tie.InvT-loop
-Inv-loop first map₀ i before left₀ map left = (left ≤ 4) × (length map ≡ 64) × (takenBack map₀ first i before 4 ≡ takenBack map first i before left)
+Inv-loop first map₀ i before left₀ map left = (left ≤ 6) × (length map ≡ 96) × (takenBack map₀ first i before 6 ≡ takenBack map first i before left)
 
 abbrev μ-loop : tie.MeasureT-loop
 μ-loop first map₀ i before left₀ map left = left

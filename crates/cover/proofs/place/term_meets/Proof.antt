@@ -39,8 +39,8 @@ returns-2 c =
     let k = c .before .before .before .before .before .before .before .before in
     let a = k .args in
     let W = sentTo (a .map .now) (a .first .now) (a .second .now) (a .i) (a .k) (a .j) in
-    let v : getD (a .first .now) (a .i + a .j) 0 < 64 = omega arith in
-    let size : length W ≡ 64 = length-sent _ _ _ _ _ _ ∙ k .pre .0 in
+    let v : getD (a .first .now) (a .i + a .j) 0 < 96 = omega arith in
+    let size : length W ≡ 96 = length-sent _ _ _ _ _ _ ∙ k .pre .0 in
     sym (ap isSome (place-new W _ _ (omega arith) (omega arith) (k .pre .4) (sym (c .before .goes-to .ensures) ∙ c .if2 .taken)))
 
 returns-3 : tie.Need-returns-3
@@ -49,8 +49,8 @@ returns-3 c =
     let g = c .before .goes-to .ensures in
     let a = k .args in
     let W = sentTo (a .map .now) (a .first .now) (a .second .now) (a .i) (a .k) (a .j) in
-    let v : getD (a .first .now) (a .i + a .j) 0 < 64 = omega arith in
-    let size : length W ≡ 64 = length-sent _ _ _ _ _ _ ∙ k .pre .0 in
+    let v : getD (a .first .now) (a .i + a .j) 0 < 96 = omega arith in
+    let size : length W ≡ 96 = length-sent _ _ _ _ _ _ ∙ k .pre .0 in
     sym (ap isSome (place-old W _ _ (omega arith) (omega arith) (λ e. c .if2 .left (g ∙ e))) ∙ some-if _ _ ∙ ap (λ b. eqb b (getD (a .second .now) (a .k + a .j) 0)) (sym g))
 
 pub term-meets-spec : {M : Type 1} → statement M

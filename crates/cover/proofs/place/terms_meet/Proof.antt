@@ -20,17 +20,17 @@ use Rattle.cover.proofs.place.terms_meet.Tie as tie
 
 abbrev Inv-loop : tie.InvT-loop
 Inv-loop first second map i k j₀ j =
-    (j ≤ 4)
-    × T (usedFirst stored first (i + j) (4 - j))
+    (j ≤ 6)
+    × T (usedFirst stored first (i + j) (6 - j))
     × ((n : ℕ) → n < j → getD second (k + n) 0 ≡ 255 → ⊥)
-    × (placeTerms (partOf map) (argsAt first i 4) (argsAt second k 4)
+    × (placeTerms (partOf map) (argsAt first i 6) (argsAt second k 6)
     ≡ placeTerms
     (partOf (sentTo map first second i k j))
-    (argsAt first (i + j) (4 - j))
-    (argsAt second (k + j) (4 - j)))
+    (argsAt first (i + j) (6 - j))
+    (argsAt second (k + j) (6 - j)))
 
 abbrev μ-loop : tie.MeasureT-loop
-μ-loop first second map i k j₀ j = 4 - j
+μ-loop first second map i k j₀ j = 6 - j
 
 loop-holds : tie.Need-loop-holds Inv-loop μ-loop
 loop-holds c =
@@ -56,7 +56,7 @@ returns c =
     sym
     (ap isSome
     (l .loop .inv .3
-    ∙ places-end (a .first .now) (a .second .now) (a .i) (a .k) (l .loop .j) 4 (omega arith) _ (c .before .if1 .taken))
+    ∙ places-end (a .first .now) (a .second .now) (a .i) (a .k) (l .loop .j) 6 (omega arith) _ (c .before .if1 .taken))
     ∙ some-if _ _)
 
 add-if2 : tie.Need-add-if2 Inv-loop μ-loop
@@ -72,7 +72,7 @@ returns-2 c =
     sym
     (ap isSome
     (l .loop .inv .3
-    ∙ places-short (a .first .now) (a .second .now) (a .i) (a .k) (l .loop .j) 4 (omega arith) _ (c .before .before .if1 .left)
+    ∙ places-short (a .first .now) (a .second .now) (a .i) (a .k) (l .loop .j) 6 (omega arith) _ (c .before .before .if1 .left)
     (c .if2 .taken)))
 
 term-meets-requires : tie.Need-term-meets-requires Inv-loop μ-loop
@@ -80,7 +80,7 @@ term-meets-requires c κs =
     let l = c .before .before .before .before .before in
     let a = l .before .before .before .before .args in
     let used = c .before .before .if1 .left in
-    let u = used-more (a .first .now) (a .i) (l .loop .j) 4 (omega arith) stored (l .loop .inv .1) used in
+    let u = used-more (a .first .now) (a .i) (l .loop .j) 6 (omega arith) stored (l .loop .inv .1) used in
     (l .before .before .before .before .pre .0, omega arith, omega arith, l .loop .inv .2, c .if2 .left, term-constant stored _ (u .0))
 
 returns-3 : tie.Need-returns-3 Inv-loop μ-loop
@@ -91,7 +91,7 @@ returns-3 c =
     sym
     (ap isSome
     (l .loop .inv .3
-    ∙ places-clash (a .first .now) (a .second .now) (a .i) (a .k) (l .loop .j) 4 (omega arith) _
+    ∙ places-clash (a .first .now) (a .second .now) (a .i) (a .k) (l .loop .j) 6 (omega arith) _
     (c .before .before .before .before .if1 .left) (c .before .before .if2 .left)
     (not-some _ (sym m ∙ not-true _ (c .if3 .taken)))))
 
@@ -108,12 +108,12 @@ loop-again c =
     let a = s .args in
     let m = c .before .term-meets .ensures in
     let used = c .before .before .before .before .if1 .left in
-    let u = used-more (a .first .now) (a .i) (l .loop .j) 4 (omega arith) stored (l .loop .inv .1) used in (
+    let u = used-more (a .first .now) (a .i) (l .loop .j) 6 (omega arith) stored (l .loop .inv .1) used in (
       omega arith,
       u .1,
       one-used (a .second .now) (a .k) (l .loop .j) (l .loop .inv .2) (c .before .before .if2 .left),
       l .loop .inv .3
-          ∙ sent-next _ _ _ _ _ 4 (s .pre .0) _ (omega arith) (l .loop .inv .1) used (c .before .before .if2 .left)
+          ∙ sent-next _ _ _ _ _ 6 (s .pre .0) _ (omega arith) (l .loop .inv .1) used (c .before .before .if2 .left)
           (sym m ∙ not-false _ (c .if3 .left)),
     )
 

@@ -62,12 +62,12 @@ try-candidate-below t =
 
 abbrev place-next-Inv-loop : place-next-lts.InvT-loop
 place-next-Inv-loop first second map₀ i left w k₀ more₀ map k more =
-    (k + more * 5 ≤ length second)
+    (k + more * 7 ≤ length second)
     × (map ≡ map₀)
     × (findMap (atomsAt stored first i left) (atomsAt stored second 1 w) (partOf map₀)
     ≡ tried
     (atomAt stored first i)
-    (atomsAt stored first (i + 5) (left - 1))
+    (atomsAt stored first (i + 7) (left - 1))
     (atomsAt stored second 1 w)
     (atomsAt stored second k more)
     (partOf map₀))

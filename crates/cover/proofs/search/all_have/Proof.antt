@@ -8,7 +8,7 @@ use Rattle.covering.specs.Record.{stored, atomsAt}
 use Rattle.cover.specs.HeldMap.{partOf}
 use Rattle.covering.specs.Buffer.{AtomsIn}
 use Rattle.cover.specs.Candidates.{hasCandidate}
-use Rattle.cover.proofs.SearchSteps.{each-none, each-fails, each-passes}
+use Rattle.covering.proofs.EachAtom.{each-none, each-fails, each-passes}
 use Rattle.covering.proofs.Places.{sound-more}
 use Rattle.cover.proofs.search.all_have.Statement.{statement}
 use Rattle.cover.proofs.search.all_have.Tie as tie

@@ -13,7 +13,7 @@ use Rattle.cover.proofs.search.has_candidate.Tie as tie
 
 abbrev Inv-loop : tie.InvT-loop
 Inv-loop first second map i w at₀ more₀ at more =
-    (at + more * 5 ≤ length second)
+    (at + more * 7 ≤ length second)
     × (hasCandidate (partOf map) (atomsAt stored second 1 w) (atomAt stored first i)
     ≡ hasCandidate (partOf map) (atomsAt stored second at more) (atomAt stored first i))
 

@@ -19,14 +19,14 @@ use Rattle.cover.proofs.search.leads_on.Tie as tie
 
 abbrev Inv-loop : tie.InvT-loop
 Inv-loop first map i left j₀ j =
-    (j ≤ 4)
-    × T (usedFirst stored first (i + 1 + j) (4 - j))
-    × (any (λ t. newTo (partOf map) t && any (eqTerm t) (terms (atomsAt stored first (i + 5) left))) (argsAt first (i + 1) 4)
-    ≡ any (λ t. newTo (partOf map) t && any (eqTerm t) (terms (atomsAt stored first (i + 5) left)))
-    (argsAt first (i + 1 + j) (4 - j)))
+    (j ≤ 6)
+    × T (usedFirst stored first (i + 1 + j) (6 - j))
+    × (any (λ t. newTo (partOf map) t && any (eqTerm t) (terms (atomsAt stored first (i + 7) left))) (argsAt first (i + 1) 6)
+    ≡ any (λ t. newTo (partOf map) t && any (eqTerm t) (terms (atomsAt stored first (i + 7) left)))
+    (argsAt first (i + 1 + j) (6 - j)))
 
 abbrev μ-loop : tie.MeasureT-loop
-μ-loop first map i left j₀ j = 4 - j
+μ-loop first map i left j₀ j = 6 - j
 
 loop-holds : tie.Need-loop-holds Inv-loop μ-loop
 loop-holds c =
@@ -47,7 +47,7 @@ unfolding leadsOn atomAt
 returns c =
     let l = c .before .before .before in
     let a = l .before .before .before .args in
-    sym (l .loop .inv .2 ∙ args-stop _ (a .first .now) (a .i + 1) (l .loop .j) 4 (omega arith) (c .if1 .taken))
+    sym (l .loop .inv .2 ∙ args-stop _ (a .first .now) (a .i + 1) (l .loop .j) 6 (omega arith) (c .if1 .taken))
 
 add-place-leads : tie.Need-add-place-leads Inv-loop μ-loop
 add-place-leads c = omega arith
@@ -56,7 +56,7 @@ place-leads-requires : tie.Need-place-leads-requires Inv-loop μ-loop
 place-leads-requires c κs =
     let l = c .before .before .before in
     let s = l .before .before .before in
-    let u = used-more (s .args .first .now) (s .args .i + 1) (l .loop .j) 4 (omega arith) stored (l .loop .inv .1) (c .if1 .left) in
+    let u = used-more (s .args .first .now) (s .args .i + 1) (l .loop .j) 6 (omega arith) stored (l .loop .inv .1) (c .if1 .left) in
     (s .pre .0, omega arith, term-constant stored _ (u .0))
 
 returns-2 : tie.Need-returns-2 Inv-loop μ-loop
@@ -66,7 +66,7 @@ returns-2 c =
     let a = l .before .before .before .args in
     sym
     (l .loop .inv .2
-    ∙ args-hit _ (a .first .now) (a .i + 1) (l .loop .j) 4 (omega arith) (c .before .before .if1 .left)
+    ∙ args-hit _ (a .first .now) (a .i + 1) (l .loop .j) 6 (omega arith) (c .before .before .if1 .left)
     (sym (c .before .place-leads .ensures) ∙ c .if2 .taken))
 
 add-j : tie.Need-add-j Inv-loop μ-loop
@@ -80,11 +80,11 @@ loop-again c =
     let l = c .before .before .before .before .before in
     let a = l .before .before .before .args in
     let used = c .before .before .if1 .left in
-    let u = used-more (a .first .now) (a .i + 1) (l .loop .j) 4 (omega arith) stored (l .loop .inv .1) used in (
+    let u = used-more (a .first .now) (a .i + 1) (l .loop .j) 6 (omega arith) stored (l .loop .inv .1) used in (
       omega arith,
       u .1,
       l .loop .inv .2
-          ∙ args-miss _ (a .first .now) (a .i + 1) (l .loop .j) 4 (omega arith) used
+          ∙ args-miss _ (a .first .now) (a .i + 1) (l .loop .j) 6 (omega arith) used
           (sym (c .before .place-leads .ensures) ∙ c .if2 .left),
     )
 

@@ -17,7 +17,7 @@ shared-slice-read-if2 c = omega arith
 returns-2 : tie.Need-returns-2
 returns-2 c =
     let s = c .before .before .before .before .before in
-    let v : s .args .u < 64 = omega arith in
+    let v : s .args .u < 96 = omega arith in
     sym (and-no _ _ (placed-old (s .args .map .now) (s .args .u) (omega arith) (omega arith) (c .if2 .taken)))
 
 stands-in-requires : tie.Need-stands-in-requires
@@ -26,7 +26,7 @@ stands-in-requires c κs = (omega arith, omega arith)
 returns-3 : tie.Need-returns-3
 returns-3 c =
     let s = c .before .before .before .before .before .before in
-    let v : s .args .u < 64 = omega arith in
+    let v : s .args .u < 96 = omega arith in
     c .stands-in .ensures
     ∙ sym (and-yes _ _ (free-new (s .args .map .now) (s .args .u) (omega arith) (omega arith) (omega (arith, c .before .if2 .left))))
 

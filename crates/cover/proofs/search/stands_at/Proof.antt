@@ -15,11 +15,11 @@ use Rattle.cover.proofs.search.stands_at.Tie as tie
 
 abbrev Inv-loop : tie.InvT-loop
 Inv-loop first i t j₀ j =
-    (j ≤ 4)
-    × (any (eqTerm (termOf t)) (argsAt first (i + 1) 4) ≡ any (eqTerm (termOf t)) (argsAt first (i + 1 + j) (4 - j)))
+    (j ≤ 6)
+    × (any (eqTerm (termOf t)) (argsAt first (i + 1) 6) ≡ any (eqTerm (termOf t)) (argsAt first (i + 1 + j) (6 - j)))
 
 abbrev μ-loop : tie.MeasureT-loop
-μ-loop first i t j₀ j = 4 - j
+μ-loop first i t j₀ j = 6 - j
 
 loop-holds : tie.Need-loop-holds Inv-loop μ-loop
 loop-holds c = (omega arith, rw add-zero refl)
@@ -40,14 +40,14 @@ returns c =
     let e = c .if1 .taken in
     sym
     (l .loop .inv .1
-    ∙ args-hit (eqTerm (termOf (a .t))) (a .first .now) (a .i + 1) (l .loop .j) 4 (omega arith) (λ q. absurd (omega arith))
+    ∙ args-hit (eqTerm (termOf (a .t))) (a .first .now) (a .i + 1) (l .loop .j) 6 (omega arith) (λ q. absurd (omega arith))
     (term-same (a .t) _ ∙ eq-eqb (a .t) _ (sym e)))
 
 returns-2 : tie.Need-returns-2 Inv-loop μ-loop
 returns-2 c =
     let l = c .before .before .before .before in
     let a = l .before .args in
-    sym (l .loop .inv .1 ∙ args-stop (eqTerm (termOf (a .t))) (a .first .now) (a .i + 1) (l .loop .j) 4 (omega arith) (c .if2 .taken))
+    sym (l .loop .inv .1 ∙ args-stop (eqTerm (termOf (a .t))) (a .first .now) (a .i + 1) (l .loop .j) 6 (omega arith) (c .if2 .taken))
 
 add-j : tie.Need-add-j Inv-loop μ-loop
 add-j c = omega arith
@@ -61,7 +61,7 @@ loop-again c =
     let a = l .before .args in (
       omega arith,
       l .loop .inv .1
-          ∙ args-miss (eqTerm (termOf (a .t))) (a .first .now) (a .i + 1) (l .loop .j) 4 (omega arith) (c .if2 .left)
+          ∙ args-miss (eqTerm (termOf (a .t))) (a .first .now) (a .i + 1) (l .loop .j) 6 (omega arith) (c .if2 .left)
           (term-same (a .t) _ ∙ ne-eqb (a .t) _ (λ q. c .before .if1 .left (sym q))),
     )
 

@@ -13,7 +13,7 @@ use Rattle.cover.proofs.search.stands_in.Tie as tie
 
 abbrev Inv-loop : tie.InvT-loop
 Inv-loop first i left t at₀ more₀ at more =
-    (at + more * 5 ≤ length first)
+    (at + more * 7 ≤ length first)
     × (any (eqTerm (termOf t)) (terms (atomsAt stored first i left))
     ≡ any (eqTerm (termOf t)) (terms (atomsAt stored first at more)))
 

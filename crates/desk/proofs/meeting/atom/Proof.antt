@@ -6,10 +6,10 @@ use Rattle.desk.proofs.meeting.atom.Statement.{statement}
 use Rattle.desk.proofs.meeting.atom.Tie as tie
 
 abbrev Inv-loop : tie.InvT-loop
-Inv-loop r i j₀ t5 t6 t7 j = (1 ≤ j) × (j ≤ 5)
+Inv-loop r i j₀ t5 t6 t7 j = (1 ≤ j) × (j ≤ 7)
 
 abbrev μ-loop : tie.MeasureT-loop
-μ-loop r i j₀ t5 t6 t7 j = 5 - j
+μ-loop r i j₀ t5 t6 t7 j = 7 - j
 
 shared-slice-read-relation : tie.Need-shared-slice-read-relation Inv-loop μ-loop
 shared-slice-read-relation c = omega arith

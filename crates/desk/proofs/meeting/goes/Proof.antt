@@ -6,10 +6,10 @@ use Rattle.desk.proofs.meeting.goes.Statement.{statement}
 use Rattle.desk.proofs.meeting.goes.Tie as tie
 
 abbrev Inv-loop : tie.InvT-loop
-Inv-loop first i second k map j₀ j = (1 ≤ j) × (j ≤ 5)
+Inv-loop first i second k map j₀ j = (1 ≤ j) × (j ≤ 7)
 
 abbrev μ-loop : tie.MeasureT-loop
-μ-loop first i second k map j₀ j = 5 - j
+μ-loop first i second k map j₀ j = 7 - j
 
 shared-slice-read-if1 : tie.Need-shared-slice-read-if1 Inv-loop μ-loop
 shared-slice-read-if1 c = omega arith

@@ -7,7 +7,7 @@ use Rattle.desk.proofs.meeting.tell_atoms.Statement.{statement}
 use Rattle.desk.proofs.meeting.tell_atoms.Tie as tie
 
 abbrev Inv-loop : tie.InvT-loop
-Inv-loop first n second w map i₀ more₀ t9 t10 i more = i + more * 5 ≤ length first
+Inv-loop first n second w map i₀ more₀ t9 t10 i more = i + more * 7 ≤ length first
 
 abbrev μ-loop : tie.MeasureT-loop
 μ-loop first n second w map i₀ more₀ t9 t10 i more = more

@@ -7,7 +7,7 @@ use Rattle.desk.proofs.meeting.tell_met.Statement.{statement}
 use Rattle.desk.proofs.meeting.tell_met.Tie as tie
 
 abbrev Inv-loop : tie.InvT-loop
-Inv-loop first i second w map k₀ more₀ k more = k + more * 5 ≤ length second
+Inv-loop first i second w map k₀ more₀ k more = k + more * 7 ≤ length second
 
 abbrev μ-loop : tie.MeasureT-loop
 μ-loop first i second w map k₀ more₀ k more = more

@@ -6,10 +6,10 @@ use Rattle.desk.proofs.meeting.tell_variables.Statement.{statement}
 use Rattle.desk.proofs.meeting.tell_variables.Tie as tie
 
 abbrev Inv-loop : tie.InvT-loop
-Inv-loop map v₀ t3 t4 v = v ≤ 64
+Inv-loop map v₀ t3 t4 v = v ≤ 66
 
 abbrev μ-loop : tie.MeasureT-loop
-μ-loop map v₀ t3 t4 v = 64 - v
+μ-loop map v₀ t3 t4 v = 66 - v
 
 loop-holds : tie.Need-loop-holds Inv-loop μ-loop
 loop-holds c = omega arith

@@ -17,30 +17,37 @@ use Rattle.explore.proofs.whole_run.explore_all.Statement.{statement}
 use Rattle.explore.proofs.whole_run.explore_all.Tie as tie
 
 abbrev Inv-loop : tie.InvT-loop
-Inv-loop book work₀ rules allowed answers starts len filled₀ taken₀ work filled taken = Running book work filled taken
+Inv-loop book work₀ rules allowed answers starts heads len filled₀ taken₀ work filled taken = Running book work filled taken
 
 abbrev μ-loop : tie.MeasureT-loop
-μ-loop book work₀ rules allowed answers starts len filled₀ taken₀ work filled taken = allowed - taken
+μ-loop book work₀ rules allowed answers starts heads len filled₀ taken₀ work filled taken = allowed - taken
 
 -- points of the walk: where a turn begins, where the function began, and the turn whose member is explored
 abbrev turn : tie.Else2 Inv-loop μ-loop → tie.At-loop Inv-loop μ-loop
 turn e = e .before .before .before
 
 abbrev start : tie.At-loop Inv-loop μ-loop → tie.Start Inv-loop μ-loop
-start l = l .before .before .before .before .before .before .before .before .before .before .before .before
+start l = l .before .before .before .before .before .before .before .before .before .before .before .before .before .before
 
 -- after the header was read, and after the answer records were counted
 abbrev reading : tie.At-loop Inv-loop μ-loop → tie.After-read Inv-loop μ-loop
-reading l = l .before .before .before .before .before .before .before .before .before
+reading l = l .before .before .before .before .before .before .before .before .before .before .before
 
 abbrev counted : tie.At-loop Inv-loop μ-loop → tie.After-answer-records Inv-loop μ-loop
-counted l = l .before .before .before .before .before .before .before .before
+counted l = l .before .before .before .before .before .before .before .before .before .before
+
+-- after the rules' starts were found, and the sets of their head relations made
+abbrev started : tie.At-loop Inv-loop μ-loop → tie.After-starts Inv-loop μ-loop
+started l = l .before .before .before .before .before .before .before .before .before
+
+abbrev set-up : tie.At-loop Inv-loop μ-loop → tie.After-head-sets Inv-loop μ-loop
+set-up l = l .before .before .before .before .before .before .before
 
 abbrev book-of : tie.At-loop Inv-loop μ-loop → List ℕ
 book-of l = start l .args .book .now
 
 abbrev taking-up : tie.After-explore Inv-loop μ-loop → tie.Else2 Inv-loop μ-loop
-taking-up x = x .before .before .before .before .before .before .before
+taking-up x = x .before .before .before .before .before .before .before .before
 
 read-requires : tie.Need-read-requires Inv-loop μ-loop
 read-requires c κs = sound-long _ (c .before .before .pre .0)
@@ -49,17 +56,29 @@ answer-records-requires : tie.Need-answer-records-requires Inv-loop μ-loop
 answer-records-requires c κs = c .before .before .before .pre .0
 
 starts-requires : tie.Need-starts-requires Inv-loop μ-loop
-starts-requires c κs = c .before .before .before .before .pre .0
+starts-requires c κs = let s = c .before .before .before .before in (s .pre .0, s .pre .2)
 
 first-member-requires : tie.Need-first-member-requires Inv-loop μ-loop
-first-member-requires c κs = c .before .before .before .before .before .pre .0
+first-member-requires c κs = let s = c .before .before .before .before .before .before .before in (s .pre .0, s .pre .2)
+
+slice-aggregate-head-sets : tie.Need-slice-aggregate-head-sets Inv-loop μ-loop
+slice-aggregate-head-sets c = search needs
+
+head-sets-requires : tie.Need-head-sets-requires Inv-loop μ-loop
+head-sets-requires c κs =
+    let s = c .before .before .before .before .before .before in (
+      s .pre .0,
+      omega (arith, rules-read (s .args .book .now) (s .pre .0) _ (c .before .before .before .read .ensures)),
+      c .before .starts .ensures,
+      s .pre .2,
+    )
 
 slice-aggregate-append : tie.Need-slice-aggregate-append Inv-loop μ-loop
 slice-aggregate-append c = search needs
 
 append-requires : tie.Need-append-requires Inv-loop μ-loop
 append-requires c κs =
-    let b = c .before .before .before .before .before .before .before .before in
+    let b = c .before .before .before .before .before .before .before .before .before .before in
     let is = c .before .before .first-member .ensures in
     let B = b .args .book .now in
     let W = b .args .work .now in
@@ -67,7 +86,7 @@ append-requires c κs =
 
 loop-holds : tie.Need-loop-holds Inv-loop μ-loop
 loop-holds c =
-    let b = c .before .before .before .before .before .before .before .before .before .before .before in
+    let b = c .before .before .before .before .before .before .before .before .before .before .before .before .before in
     let put = c .before .before .append .ensures in
     first-running (b .args .book .now) (b .pre .0) (b .args .work .now) (b .pre .1) _
     (c .before .before .before .before .before .first-member .ensures) _ _ (put .0) (put .1)
@@ -110,18 +129,23 @@ slice-aggregate-explore c = search needs
 slice-aggregate-explore-2 : tie.Need-slice-aggregate-explore-2 Inv-loop μ-loop
 slice-aggregate-explore-2 c = search needs
 
+slice-aggregate-explore-3 : tie.Need-slice-aggregate-explore-3 Inv-loop μ-loop
+slice-aggregate-explore-3 c = search needs
+
 explore-requires : tie.Need-explore-requires Inv-loop μ-loop
 explore-requires c κs =
-    let e = c .before .before .before .before .before .before in
+    let e = c .before .before .before .before .before .before .before in
     let l = turn e in
     let s = start l .pre .0 in
-    let old = c .before .before .before .before .oldest .ensures in (
+    let old = c .before .before .before .before .before .oldest .ensures in (
       s,
       omega (arith, rules-read (book-of l) s _ (reading l .read .ensures)),
-      l .before .before .before .before .before .before .before .starts .ensures,
+      started l .starts .ensures,
       member-of (book-of l) (l .loop .inv) (e .before .if1 .taken) (more e) s (old .0) (old .1) _ (old .2),
       taken-working (book-of l) (l .loop .inv) (e .before .if1 .taken) (more e),
       counted l .answer-records .ensures,
+      start l .pre .2,
+      set-up l .head-sets .ensures,
     )
 
 enum-known-explored : tie.Need-enum-known-explored Inv-loop μ-loop
@@ -135,9 +159,9 @@ loop-again c =
     let x = c .before .before .before .before .before in
     let e = taking-up x in
     let l = turn e in
-    let old = x .before .before .before .before .before .oldest .ensures in
+    let old = x .before .before .before .before .before .before .oldest .ensures in
     running-next (book-of l) (l .loop .inv) (e .before .if1 .taken) (more e) (start l .pre .0) (old .0) (old .1) _ (old .2)
-    (x .explore .last .1 .1 .1 .1 .0) (x .explore .result) (x .explore .ensures) _ (c .before .explored .given .1)
+    (x .explore .last .1 .1 .1 .1 .1 .0) (x .explore .result) (x .explore .ensures) _ (c .before .explored .given .1)
 
 enum-known-explored-2 : tie.Need-enum-known-explored-2 Inv-loop μ-loop
 enum-known-explored-2 c = search needs
@@ -151,9 +175,9 @@ returns-2 c =
     let x = c .before .before .before .before .before in
     let e = taking-up x in
     let l = turn e in
-    let old = x .before .before .before .before .before .oldest .ensures in
+    let old = x .before .before .before .before .before .before .oldest .ensures in
     outcome-refused (book-of l) (l .loop .inv) (e .before .if1 .taken) (more e) (start l .pre .0) (old .0) (old .1) _
-    (old .2) (x .explore .last .1 .1 .1 .1 .0) (x .explore .result) (x .explore .ensures) _ (c .before .explored2 .given .1)
+    (old .2) (x .explore .last .1 .1 .1 .1 .1 .0) (x .explore .result) (x .explore .ensures) _ (c .before .explored2 .given .1)
 
 same-length-3 : tie.Need-same-length-3 Inv-loop μ-loop
 same-length-3 c = sized (c .before .before)
@@ -172,6 +196,8 @@ explore-all-spec =
     read-requires
     answer-records-requires
     starts-requires
+    slice-aggregate-head-sets
+    head-sets-requires
     first-member-requires
     slice-aggregate-append
     append-requires
@@ -183,6 +209,7 @@ explore-all-spec =
     add-filled
     slice-aggregate-explore
     slice-aggregate-explore-2
+    slice-aggregate-explore-3
     explore-requires
     enum-known-explored
     loop-less

@@ -17,13 +17,13 @@ question-requires c κs = search needs
 
 in-form-requires : tie.Need-in-form-requires
 in-form-requires c κs =
-    subst (SoundRecord stored) (sym (c .question .ensures)) (stored-sound _ (question-stored _ (c .before .before .pre)))
+    subst (SoundRecord stored) (sym (c .question .ensures)) (stored-sound _ (question-stored _ (c .before .before .pre .0) (c .before .before .pre .1)))
 
 returns : tie.Need-returns
 returns c =
     c .in-form .ensures
     ∙ ap (λ (R : List ℕ). heldIn stored recordRoom (form (questionOf stored R))) (c .before .question .ensures)
-    ∙ ap (λ (A : Question). heldIn stored recordRoom (form A)) (stored-question _ (question-stored _ (c .before .before .before .pre)))
+    ∙ ap (λ (A : Question). heldIn stored recordRoom (form A)) (stored-question _ (question-stored _ (c .before .before .before .pre .0) (c .before .before .before .pre .1)))
 
 pub first-member-spec : {M : Type 1} → statement M
 first-member-spec = tie.close (tie.spec question-requires in-form-requires returns)

@@ -19,14 +19,14 @@ use Rattle.forming.proofs.formed.atom_on.Tie as tie
 abbrev Inv-loop : tie.InvT-loop
 Inv-loop table from at atom₀ j₀ atom j =
     (1 ≤ j)
-    × (j ≤ 5)
-    × (length atom ≡ 5)
+    × (j ≤ 7)
+    × (length atom ≡ 7)
     × ((m : ℕ)
     → m < j
     → getD atom m 0 ≡ getD (atomBytes stored (on-atom (subOf table) (atomAt stored from at))) m 0)
 
 abbrev μ-loop : tie.MeasureT-loop
-μ-loop table from at atom₀ j₀ atom j = 5 - j
+μ-loop table from at atom₀ j₀ atom j = 7 - j
 
 shared-slice-read-atom : tie.Need-shared-slice-read-atom Inv-loop μ-loop
 shared-slice-read-atom c = omega arith
@@ -51,7 +51,8 @@ shared-slice-read-replaced c = omega arith
 replaced-requires : tie.Need-replaced-requires Inv-loop μ-loop
 replaced-requires c κs =
     let l = c .before .before in
-    place-byte _ _ (l .loop .j) (l .before .before .before .pre .sound) (omega arith) (omega arith)
+    let p = l .before .before .before .before .pre in
+    (p .0, place-byte _ _ (l .loop .j) (p .1 .sound) (omega arith) (omega arith))
 
 array-write-atom-2 : tie.Need-array-write-atom-2 Inv-loop μ-loop
 array-write-atom-2 c = search needs
@@ -65,9 +66,9 @@ loop-less c = omega arith
 loop-again : tie.Need-loop-again Inv-loop μ-loop
 loop-again c =
     let l = c .before .before .before in
-    let a = l .before .before .before .args in
-    let t = l .before .before .before .pre .sound in
-    let atom = on-atom (subOf (a .table)) (atomAt stored (a .from .now) (a .at)) in
+    let a = l .before .before .before .before .args in
+    let t = l .before .before .before .before .pre .1 .sound in
+    let atom = on-atom (subOf (a .table .now)) (atomAt stored (a .from .now) (a .at)) in
     let lt : l .loop .j < length (l .loop .atom) = omega arith in (
       omega arith,
       omega arith,

@@ -16,7 +16,7 @@ use Rattle.covering.proofs.RoundTrip.{stored-apart}
 use Rattle.forming.proofs.Leftward.{dedup-leftward}
 use Rattle.covering.proofs.Fitting.{atom-fits}
 use Rattle.forming.proofs.Passing.{in-next, added-done, added-next}
-use Rattle.forming.proofs.Growing.{Grows, grows-none, grows-room, grows-added}
+use Rattle.forming.proofs.Growing.{Grows, grows-none, grows-length, grows-room, grows-added}
 use Rattle.forming.proofs.formed.drop_equal.Statement.{statement}
 use Rattle.forming.proofs.formed.drop_equal.Tie as tie
 
@@ -29,7 +29,7 @@ At member kept i left =
     × (dedup (questionOf stored member) ≡ addedAll eqAtom K (atomsAt stored member i left)))
 
 abbrev Inv-loop : tie.InvT-loop
-Inv-loop member kept₀ n left₀ kept left = (left ≤ n) × At member kept (1 + (n - left) * 5) left
+Inv-loop member kept₀ n left₀ kept left = (left ≤ n) × At member kept (1 + (n - left) * 7) left
 
 abbrev μ-loop : tie.MeasureT-loop
 μ-loop member kept₀ n left₀ kept left = left
@@ -48,7 +48,7 @@ unfolding questionOf
 loop-holds c =
     let p = c .before .before .before .pre in
     let m = c .before .before .before .args .member .now in
-    let first : 1 ≡ 1 + (getD m 0 0 - getD m 0 0) * 5 = omega arith in
+    let first : 1 ≡ 1 + (getD m 0 0 - getD m 0 0) * 7 = omega arith in
     let none = grows-none stored recordRoom _ (getD m 0 0) (c .before .no-atoms .ensures) (omega (arith, p .most)) in
     let k = c .before .no-atoms .result in
     let start : At m k 1 (getD m 0 0) = (sound-in stored m p, ([], none, dedup-leftward _)) in
@@ -63,12 +63,18 @@ mul-at c = omega arith
 add-at : tie.Need-add-at Inv-loop μ-loop
 add-at c = omega arith
 
+slice-aggregate-put-new : tie.Need-slice-aggregate-put-new Inv-loop μ-loop
+slice-aggregate-put-new c =
+    let s = c .before .before .loop .inv .1 .1 in
+    sym (grows-length stored stored-apart recordRoom _ (s .0) _ (s .1))
+
 put-new-requires : tie.Need-put-new-requires Inv-loop μ-loop
 put-new-requires c κs =
-    let l = c .before in
+    let t = c .before in
+    let l = t .before in
     let s = l .loop .inv .1 .1 in (
-      grows-room stored stored-apart recordRoom _ (s .0) _ (s .1) (c .loop-test .taken),
-      in-next stored _ _ _ (l .loop .inv .1 .0) (c .loop-test .taken) .0,
+      grows-room stored stored-apart recordRoom _ (s .0) _ (s .1) (t .loop-test .taken),
+      in-next stored _ _ _ (l .loop .inv .1 .0) (t .loop-test .taken) .0,
     )
 
 sub-left : tie.Need-sub-left Inv-loop μ-loop
@@ -79,19 +85,21 @@ loop-less c = omega arith
 
 loop-again : tie.Need-loop-again Inv-loop μ-loop
 loop-again c =
-    let l = c .before .before in
+    let p = c .before in
+    let t = p .before .before in
+    let l = t .before in
     let s = l .loop .inv .1 .1 in
-    let some = c .before .loop-test .taken in
+    let some = t .loop-test .taken in
     let next = in-next stored _ _ _ (l .loop .inv .1 .0) some in
     let fits = atom-fits stored stored-apart _ (omega arith) _ (next .0 .sound) in
-    let more = grows-added stored stored-apart recordRoom _ (s .0) _ (s .1) _ _ fits some (c .put-new .ensures) in
+    let more = grows-added stored stored-apart recordRoom _ (s .0) _ (s .1) _ _ fits some (p .put-new .ensures) in
     let m = l .before .before .before .before .args .member .now in
     let n = getD m 0 0 in
     let left = l .loop .left in
-    let onward : 1 + (n - left) * 5 + 5 ≡ 1 + (n - (left - 1)) * 5 = omega (arith, l .loop .inv .0) in (
+    let onward : 1 + (n - left) * 7 + 7 ≡ 1 + (n - (left - 1)) * 7 = omega (arith, l .loop .inv .0) in (
       omega arith,
       subst
-          (λ i. At m (c .put-new .result) i (left - 1))
+          (λ i. At m (p .put-new .last .0) i (left - 1))
           onward
           (next .1, (_, more, s .2 ∙ added-next stored _ _ _ (s .0) some)),
     )
@@ -114,6 +122,7 @@ drop-equal-spec =
     sub-at
     mul-at
     add-at
+    slice-aggregate-put-new
     put-new-requires
     sub-left
     loop-less

@@ -2,7 +2,8 @@
 -- there is room for those from here on. The measure is the number of these.
 use borrow.Author.Needs.{needs}
 use native.Mathlib.Omega.{arith}
-use mathlib.Core.Path.{_≡_, refl, ap, _∙_}
+use mathlib.Core.Path.{_≡_, refl, sym, ap, _∙_}
+use lib.ListN.{length}
 use mathlib.Core.List.{[], _∷_, _++_}
 use Rattle.covering.specs.Term.{Question, on-question}
 use Rattle.covering.specs.Form.{numbering}
@@ -11,7 +12,7 @@ use Rattle.covering.specs.Buffer.{heldIn, AtomsIn, recordRoom}
 use Rattle.covering.proofs.Within.{sound-in}
 use Rattle.covering.proofs.RoundTrip.{stored-apart}
 use Rattle.forming.proofs.Passing.{in-next, split-done, split-in, split-next}
-use Rattle.forming.proofs.Growing.{Grows, grows-none, grows-room, grows-on, table-numbers, table-fits}
+use Rattle.forming.proofs.Growing.{Grows, grows-none, grows-length, grows-room, grows-on, table-numbers, table-fits}
 use Rattle.forming.proofs.formed.renumbered.Statement.{statement}
 use Rattle.forming.proofs.formed.renumbered.Tie as tie
 
@@ -43,14 +44,25 @@ loop-holds c =
     let p = c .before .before .before .before .pre in
     (sound-in stored _ p, ([], grows-none stored recordRoom _ _ (c .before .no-atoms .ensures) (omega (arith, p .most)), refl))
 
+slice-aggregate-put-on : tie.Need-slice-aggregate-put-on Inv-loop μ-loop
+slice-aggregate-put-on c =
+    let s = c .before .before .loop .inv .1 in
+    sym (grows-length stored stored-apart recordRoom _ _ _ (s .1))
+
+slice-aggregate-put-on-2 : tie.Need-slice-aggregate-put-on-2 Inv-loop μ-loop
+slice-aggregate-put-on-2 c = search needs
+
 put-on-requires : tie.Need-put-on-requires Inv-loop μ-loop
 put-on-requires c κs =
-    let l = c .before in
+    let t = c .before .before in
+    let l = t .before in
     let s = l .loop .inv .1 in
-    let some = c .loop-test .taken in
+    let some = t .loop-test .taken in
     let here = split-in stored _ _ _ _ (s .0) (s .2) some in
-    let b = l .before .before .before in (
+    let b = l .before .before .before in
+    let long : length (b .numbers-of .result) ≡ 96 = search needs in (
       grows-room stored stored-apart recordRoom _ _ _ (s .1) some,
+      long,
       in-next stored _ _ _ (l .loop .inv .0) some .0,
       table-fits _ (b .before .before .pre) _ (b .numbers-of .ensures) _ here,
     )
@@ -66,21 +78,23 @@ loop-less c = omega arith
 
 loop-again : tie.Need-loop-again Inv-loop μ-loop
 loop-again c =
-    let l = c .before .before in
+    let p = c .before in
+    let t = p .before .before .before in
+    let l = t .before in
     let s = l .loop .inv .1 in
-    let some = c .before .loop-test .taken in
+    let some = t .loop-test .taken in
     let here = split-in stored _ _ _ _ (s .0) (s .2) some in
     let b = l .before .before .before in
     let m = b .before .before .args .member .now in
     let a = atomAt stored m (l .loop .at) in
-    let p = b .before .before .pre in
-    let fits = table-fits _ p _ (b .numbers-of .ensures) _ here in
-    let same = table-numbers _ p _ (b .numbers-of .ensures) _ here in (
+    let pre = b .before .before .pre in
+    let fits = table-fits _ pre _ (b .numbers-of .ensures) _ here in
+    let same = table-numbers _ pre _ (b .numbers-of .ensures) _ here in (
       in-next stored _ _ _ (l .loop .inv .0) some .1,
       (
         s .0 ++ a ∷ [],
         grows-on stored stored-apart recordRoom (numbering (questionOf stored m)) _ _ _ (s .0) a _ (s .1) some same fits
-            (c .put-on .ensures),
+            (p .put-on .ensures),
         split-next stored _ _ _ _ (s .0) (s .2) some,
       ),
     )
@@ -103,6 +117,8 @@ renumbered-spec =
     shared-slice-read-left
     cast-left
     loop-holds
+    slice-aggregate-put-on
+    slice-aggregate-put-on-2
     put-on-requires
     add-at
     sub-left

@@ -1,5 +1,4 @@
 -- `forming::formed::replaced` meets its contract: a variable's byte is the table's, any other stays.
-use borrow.Author.Needs.{needs}
 use native.Mathlib.Omega.{arith}
 use mathlib.Core.Path.{sym}
 use Prim.Native.Nat.{_≤_}
@@ -11,14 +10,14 @@ use Rattle.forming.proofs.formed.replaced.Tie as tie
 returns : tie.Need-returns
 returns c =
     let a = c .before .args in
-    let is : 128 ≤ a .t = c .before .pre (c .if1 .taken) in
-    omega (arith, is, constant-on (subOf (a .t1)) (a .t) is)
+    let is : 128 ≤ a .t = c .before .pre .1 (c .if1 .taken) in
+    omega (arith, is, constant-on (subOf (a .table .now)) (a .t) is)
 
-array-read-result : tie.Need-array-read-result
-array-read-result c = search needs
+shared-slice-read-result : tie.Need-shared-slice-read-result
+shared-slice-read-result c = omega arith
 
 returns-2 : tie.Need-returns-2
-returns-2 c = let h = c .if1 .left in sym (variable-on _ _ (omega arith))
+returns-2 c = let h = c .before .if1 .left in sym (variable-on _ _ (omega arith))
 
 pub replaced-spec : {M : Type 1} → statement M
-replaced-spec = tie.close (tie.spec returns array-read-result returns-2)
+replaced-spec = tie.close (tie.spec returns shared-slice-read-result returns-2)

@@ -12,10 +12,10 @@ use Rattle.forming.proofs.formed.same_atom.Statement.{statement}
 use Rattle.forming.proofs.formed.same_atom.Tie as tie
 
 abbrev Inv-loop : tie.InvT-loop
-Inv-loop first second i k j₀ j = (j ≤ 5) × ((m : ℕ) → m < j → getD first (i + m) 0 ≡ getD second (k + m) 0)
+Inv-loop first second i k j₀ j = (j ≤ 7) × ((m : ℕ) → m < j → getD first (i + m) 0 ≡ getD second (k + m) 0)
 
 abbrev μ-loop : tie.MeasureT-loop
-μ-loop first second i k j₀ j = 5 - j
+μ-loop first second i k j₀ j = 7 - j
 
 loop-holds : tie.Need-loop-holds Inv-loop μ-loop
 loop-holds c = (omega arith, λ m h. absurd (omega arith))

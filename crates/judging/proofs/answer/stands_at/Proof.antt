@@ -1,7 +1,7 @@
 -- The variable is in none of the places passed, so that it stands where it stands in those left. Assumes nothing.
 use borrow.Author.Needs.{needs}
 use native.Mathlib.Omega.{arith}
-use mathlib.Core.Path.{_≡_, sym, _∙_, ap}
+use mathlib.Core.Path.{_≡_, sym, _∙_, ap₂}
 use Prim.Native.Nat.{ℕ, _+_, _-_, _≤_}
 use Rattle.covering.specs.Lists.{any}
 use Rattle.covering.specs.Term.{var, eqTerm}
@@ -11,18 +11,20 @@ use Rattle.judging.proofs.answer.stands_at.Statement.{statement}
 use Rattle.judging.proofs.answer.stands_at.Tie as tie
 
 abbrev Inv-loop : tie.InvT-loop
-Inv-loop book i b w₀ w =
-    (w ≤ 4) × (any (eqTerm (var b)) (argsAt book i 4) ≡ any (eqTerm (var b)) (argsAt book (i + w) (4 - w)))
+Inv-loop book i n b w₀ w =
+    (w ≤ n) × (any (eqTerm (var b)) (argsAt book i n) ≡ any (eqTerm (var b)) (argsAt book (i + w) (n - w)))
 
 abbrev μ-loop : tie.MeasureT-loop
-μ-loop book i b w₀ w = 4 - w
+μ-loop book i n b w₀ w = n - w
 
 loop-holds : tie.Need-loop-holds Inv-loop μ-loop
 loop-holds c =
     let B = c .before .args .book .now in
     let i = c .before .args .i in
+    let n = c .before .args .n in
     let at : i ≡ i + 0 = omega arith in
-    (search needs, ap (λ (j : ℕ). any (eqTerm (var (c .before .args .b))) (argsAt B j 4)) at)
+    let left : n ≡ n - 0 = omega arith in
+    (search needs, ap₂ (λ (j m : ℕ). any (eqTerm (var (c .before .args .b))) (argsAt B j m)) at left)
 
 add-wide : tie.Need-add-wide Inv-loop μ-loop
 add-wide c = search needs

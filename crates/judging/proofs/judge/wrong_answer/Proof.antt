@@ -4,11 +4,13 @@ use borrow.Author.Needs.{needs}
 use native.Mathlib.Omega.{arith}
 use mathlib.Core.Path.{_≡_, sym, _∙_, ap}
 use mathlib.Core.Bool.{true}
-use Prim.Native.Nat.{_+_}
+use Prim.Native.Nat.{ℕ, _+_}
+use Rattle.covering.proofs.Tests.{true→T}
 use Rattle.reading.specs.Header.{announced}
-use Rattle.reading.specs.Verdict.{told, wrongAnswer}
+use Rattle.reading.specs.Verdict.{told, wrongAnswer, wrongPlace}
+use Rattle.reading.proofs.Forms.{form-known}
 use Rattle.reading.proofs.SoundQuestion.{used-few}
-use Rattle.judging.proofs.JudgedHeader.{known, judged, is-question, is-records, counts-fit}
+use Rattle.judging.proofs.JudgedHeader.{known, is-constants, is-question, ends-with, is-records, counts-fit}
 use Rattle.judging.proofs.AnswerSteps.{not-announced, is-announced, record-none, record-some, record-places}
 use Rattle.judging.proofs.AnswerSteps.{answer-wrong}
 use Rattle.judging.proofs.judge.wrong_answer.Statement.{statement}
@@ -55,7 +57,9 @@ sub-used-places c = search needs
 
 used-places-requires : tie.Need-used-places-requires
 used-places-requires c κs =
-    let k = known (c .before .before .before .before .before .before .pre) in omega (arith, k .some-atom, k .ends)
+    let start = c .before .before .before .before .before .before in
+    let e = ends-with (start .pre) (true→T _ (there (c .before .before .before))) in
+    omega (arith, e, known (start .pre) .places-are, form-known (start .args .book .now) .some-places)
 
 add-used : tie.Need-add-used
 add-used c =
@@ -70,7 +74,8 @@ wrong-place-requires : tie.Need-wrong-place-requires
 wrong-place-requires c κs =
     let start = c .before .before .before .before .before .before .before in
     let k = known (start .pre) in
-    (omega (arith, k .some-atom, k .ends), k .few-constants, judged (start .pre) .constants-are)
+    let e = ends-with (start .pre) (true→T _ (there (c .before .before .before .before))) in
+    (omega (arith, e), k .places-are, k .few-constants, is-constants (start .pre))
 
 returns-3 : tie.Need-returns-3
 returns-3 c =
@@ -81,7 +86,9 @@ returns-3 c =
     let here = there (c .before .before .before .before .before) in
     let e = record-places B here i (used .result) (is-question (start .pre))
     (sym (c .before .before .before .wide .ensures .0) ∙ c .before .before .if2 .left) (used .ensures) in
-    c .wrong-place .ensures ∙ ap (told 7) (sym e)
+    c .wrong-place .ensures
+    ∙ ap (λ (w : ℕ). told 7 (wrongPlace B (1 + used .result) (i + 1) 0 w)) (known (start .pre) .places-are)
+    ∙ ap (told 7) (sym e)
 
 pub wrong-answer-spec : {M : Type 1} → statement M
 wrong-answer-spec =

@@ -6,19 +6,21 @@ use mathlib.Core.Option.{none}
 use Prim.Native.Nat.{ℕ, _+_, _*_, _-_, _≤_}
 use native.Mathlib.Nat.{sub-zero}
 use lib.ListN.{length}
+use Rattle.reading.specs.Header.{atomSize}
 use Rattle.reading.specs.Book.{bodyCount, headCount, ruleEnd}
 use Rattle.reading.specs.Verdict.{told, wrongRule, wrongInAtoms, wrongInRules}
 use Rattle.judging.proofs.JudgingSteps.{same-number, else-found, else-next, NextRule, next-rule, bytes-end}
 use Rattle.judging.proofs.JudgingSteps.{bytes-more}
+use Rattle.judging.proofs.JudgedHeader.{known, few-places}
 use Rattle.judging.proofs.judge.wrong_in_rules.Statement.{statement}
 use Rattle.judging.proofs.judge.wrong_in_rules.Tie as tie
 
 abbrev Inv-loop : tie.InvT-loop
-Inv-loop book start n end p c s₀ k₀ s k =
+Inv-loop book start n end h w s₀ k₀ s k =
     (k ≤ n) × (wrongRule book end s (n - k) ≡ none) × (wrongInRules book start n ≡ wrongInRules book s (n - k))
 
 abbrev μ-loop : tie.MeasureT-loop
-μ-loop book start n end p c s₀ k₀ s k = n - k
+μ-loop book start n end h w s₀ k₀ s k = n - k
 
 -- the rule of this turn
 here : (c : tie.In-loop Inv-loop μ-loop)
@@ -34,6 +36,18 @@ counted : (c : tie.After-wide2 Inv-loop μ-loop)
     + headCount (c .before .before .before .before .before .before .before .args .book .now)
     (c .before .before .before .before .before .loop .s)
 counted c = omega (arith, c .before .before .wide .ensures .0, c .wide2 .ensures .0)
+
+-- where it ends
+ends : (c : tie.After-wide2 Inv-loop μ-loop)
+    → c .before .before .before .before .before .loop .s + 2
+    + atomSize (c .before .before .before .before .before .before .before .args .book .now)
+    * (c .before .before .wide .result + c .wide2 .result)
+    ≤ length (c .before .before .before .before .before .before .before .args .book .now)
+ends c =
+    let turn = c .before .before .before .before in
+    let start = turn .before .before .before in
+    let e = ap (λ (n : ℕ). atomSize (start .args .book .now) * n) (counted c) in
+    omega (arith, here turn .ends, e, start .pre .1)
 
 loop-holds : tie.Need-loop-holds Inv-loop μ-loop
 loop-holds c = (search needs, rw sub-zero (c .before .pre .2), rw sub-zero)
@@ -62,7 +76,7 @@ add-wrong-in-atoms c = omega (arith, here (c .before .before .before .before))
 wrong-in-atoms-requires : tie.Need-wrong-in-atoms-requires Inv-loop μ-loop
 wrong-in-atoms-requires c κs =
     let turn = c .before .before .before .before in
-    (turn .before .before .before .pre .0, omega (arith, here turn, counted c))
+    (turn .before .before .before .pre .0, omega (arith, ends c))
 
 returns : tie.Need-returns Inv-loop μ-loop
 returns c =
@@ -78,22 +92,32 @@ returns c =
     ∙ else-found 7 (wrongInAtoms B (s + 2) (bodyCount B s + headCount B s)) (wrongInRules B (ruleEnd B s) left)
     (λ h. c .if1 .taken (same-number e ∙ h)))
 
--- where it ends
-ends : (c : tie.After-wide2 Inv-loop μ-loop)
-    → c .before .before .before .before .before .loop .s + 2 + 5 * (c .before .before .wide .result + c .wide2 .result)
-    ≤ length (c .before .before .before .before .before .before .before .args .book .now)
-ends c =
-    let turn = c .before .before .before .before in
-    omega (arith, here turn, counted c, turn .before .before .before .pre .1)
+-- its counts were read; and the bytes of its atoms, as the header tells their places
+abbrev read-in : tie.After-atoms-size Inv-loop μ-loop → tie.After-wide2 Inv-loop μ-loop
+read-in c = c .before .before .before .before
+
+sized : (c : tie.After-atoms-size Inv-loop μ-loop)
+    → c .atoms-size .result
+    ≡ atomSize (read-in c .before .before .before .before .before .before .before .args .book .now)
+    * (read-in c .before .before .wide .result + read-in c .wide2 .result)
+sized c =
+    let read = read-in c in
+    let turn = read .before .before .before .before in
+    let places = known (turn .before .before .before .pre .0) .places-are in
+    c .atoms-size .ensures .0
+    ∙ ap (λ (w : ℕ). (1 + w) * (read .before .before .wide .result + read .wide2 .result)) places
 
 add-s : tie.Need-add-s Inv-loop μ-loop
 add-s c = omega (arith, ends (c .before .before .before))
 
-mul-s : tie.Need-mul-s Inv-loop μ-loop
-mul-s c = omega (arith, ends (c .before .before .before))
+atoms-size-requires : tie.Need-atoms-size-requires Inv-loop μ-loop
+atoms-size-requires c κs =
+    let read = c .before .before .before in
+    let start = read .before .before .before .before .before .before .before in
+    (few-places (start .pre .0), omega (arith, read .before .before .wide .ensures .1, read .wide2 .ensures .1))
 
 add-s-2 : tie.Need-add-s-2 Inv-loop μ-loop
-add-s-2 c = omega (arith, ends (c .before .before .before))
+add-s-2 c = omega (arith, sized c, ends (c .before .before .before .before))
 
 add-k : tie.Need-add-k Inv-loop μ-loop
 add-k c = search needs
@@ -103,22 +127,24 @@ loop-less c = search needs
 
 loop-again : tie.Need-loop-again Inv-loop μ-loop
 loop-again c =
-    let turn = c .before .before .before .before .before .before .before in
-    let B = turn .before .before .before .args .book .now in
-    let end = turn .before .before .before .args .end in
-    let left = turn .before .before .before .args .n - (turn .before .loop .k + 1) in
+    let read = c .before .before .before .before in
+    let turn = read .before .before .before .before in
+    let start = turn .before .before .before in
+    let B = start .args .book .now in
+    let end = start .args .end in
+    let left = start .args .n - (turn .before .loop .k + 1) in
     let s = turn .before .loop .s in
-    let read = c .before .before .before in
     let m = counted read in
-    let e = c .before .before .wrong-in-atoms .ensures ∙ ap (λ (x : ℕ). told 7 (wrongInAtoms B (s + 2) x)) m in
-    let d : ruleEnd B s ≡ s + 2 + 5 * (read .before .before .wide .result + read .wide2 .result) =
-    omega (arith, m) in (
+    let e = c .before .before .before .wrong-in-atoms .ensures
+    ∙ ap (λ (x : ℕ). told 7 (wrongInAtoms B (s + 2) x)) m in
+    let d : ruleEnd B s ≡ s + 2 + c .atoms-size .result =
+    ap (λ (x : ℕ). s + 2 + x) (ap (λ (x : ℕ). atomSize B * x) (sym m) ∙ sym (sized c)) in (
       search needs,
       ap (λ (x : ℕ). wrongRule B end x left) (sym d) ∙ here turn .rest,
       turn .before .loop .inv .2
           ∙ bytes-more _ _ _ _ (turn .loop-test .taken)
           ∙ else-next 7 (wrongInAtoms B (s + 2) (bodyCount B s + headCount B s)) _ (omega arith)
-          (same-number (sym e) ∙ c .if1 .left)
+          (same-number (sym e) ∙ c .before .if1 .left)
           ∙ ap (λ (x : ℕ). wrongInRules B x left) d,
     )
 
@@ -142,7 +168,7 @@ wrong-in-rules-spec =
     wrong-in-atoms-requires
     returns
     add-s
-    mul-s
+    atoms-size-requires
     add-s-2
     add-k
     loop-less

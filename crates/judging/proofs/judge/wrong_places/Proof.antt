@@ -2,25 +2,34 @@
 use borrow.Author.Needs.{needs}
 use native.Mathlib.Omega.{arith}
 use borrow.Author.Tests.{not-true, not-false}
-use mathlib.Core.Path.{_≡_, sym, _∙_, ap}
+use mathlib.Core.Path.{_≡_, sym, _∙_, ap, ap₂}
 use Prim.Native.Nat.{ℕ, _+_, _-_, _≤_}
-use mathlib.Core.Bool.{true, false}
-use native.Mathlib.Nat.{sub-zero}
+use mathlib.Core.Bool.{Bool}
+use mathlib.Core.List.{List}
 use Rattle.reading.specs.Word.{byte}
-use Rattle.reading.specs.Header.{inside, placesRange, inBounds}
+use Rattle.reading.specs.Header.{formOf, atomPlaces, inside, placesRange, inBounds}
 use Rattle.reading.specs.Verdict.{told, wrongPlaces}
 use Rattle.judging.proofs.JudgingSteps.{places-end, places-wrong, places-right}
 use Rattle.judging.proofs.judge.wrong_places.Statement.{statement}
 use Rattle.judging.proofs.judge.wrong_places.Tie as tie
 
 abbrev Inv-loop : tie.InvT-loop
-Inv-loop book n k₀ k = (k ≤ n) × (wrongPlaces book 18 n ≡ wrongPlaces book (18 + k) (n - k))
+Inv-loop book i n w k₀ k = (k ≤ n) × (wrongPlaces book i n ≡ wrongPlaces book (i + k) (n - k))
 
 abbrev μ-loop : tie.MeasureT-loop
-μ-loop book n k₀ k = n - k
+μ-loop book i n w k₀ k = n - k
 
 loop-holds : tie.Need-loop-holds Inv-loop μ-loop
-loop-holds c = (search needs, rw sub-zero)
+loop-holds c =
+    let a = c .before .args in
+    let at : a .i ≡ a .i + 0 = omega arith in
+    let left : a .n ≡ a .n - 0 = omega arith in
+    (search needs, ap₂ (wrongPlaces (a .book .now)) at left)
+
+-- what the test of the byte says, by the byte x and the most places w
+judged : (B : List ℕ) (i : ℕ) {w x : ℕ} {t b : Bool} → w ≡ atomPlaces B → x ≡ byte B i → t ≡ inBounds 1 w x → t ≡ b
+    → inside (placesRange (formOf B)) (byte B i) ≡ b
+judged B i most is e d = ap₂ (inBounds 1) (sym most) (sym is) ∙ sym e ∙ d
 
 add-at : tie.Need-add-at Inv-loop μ-loop
 add-at c = search needs
@@ -38,10 +47,8 @@ returns : tie.Need-returns Inv-loop μ-loop
 returns c =
     let start = c .before .before .before .before .before .before .before in
     let here = c .before .before .before .before .before .loop in
-    let e : inside placesRange (byte (start .args .book .now) (18 + here .k)) ≡ false =
-    ap (λ (x : ℕ). inBounds 1 4 x) (sym (c .before .before .wide .ensures .0))
-    ∙ sym (c .before .within .ensures)
-    ∙ not-true _ (c .if1 .taken) in
+    let e = judged (start .args .book .now) (start .args .i + here .k) (start .pre .1)
+    (c .before .before .wide .ensures .0) (c .before .within .ensures) (not-true _ (c .if1 .taken)) in
     ap (told 5) (sym (here .inv .1 ∙ places-wrong _ _ _ _ (c .before .before .before .before .loop-test .taken) e))
 
 add-k : tie.Need-add-k Inv-loop μ-loop
@@ -54,11 +61,10 @@ loop-again : tie.Need-loop-again Inv-loop μ-loop
 loop-again c =
     let start = c .before .before .before .before .before .before .before in
     let here = c .before .before .before .before .before .loop in
-    let e : inside placesRange (byte (start .args .book .now) (18 + here .k)) ≡ true =
-    ap (λ (x : ℕ). inBounds 1 4 x) (sym (c .before .before .wide .ensures .0))
-    ∙ sym (c .before .within .ensures)
-    ∙ not-false _ (c .if1 .left) in
-    let d : 18 + here .k + 1 ≡ 18 + (here .k + 1) = omega arith in (
+    let i = start .args .i in
+    let e = judged (start .args .book .now) (start .args .i + here .k) (start .pre .1)
+    (c .before .before .wide .ensures .0) (c .before .within .ensures) (not-false _ (c .if1 .left)) in
+    let d : i + here .k + 1 ≡ i + (here .k + 1) = omega arith in (
       search needs,
       here .inv .1
           ∙ places-right _ _ _ _ (c .before .before .before .before .loop-test .taken) e

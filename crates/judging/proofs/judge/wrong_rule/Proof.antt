@@ -15,17 +15,19 @@ use Rattle.judging.proofs.judge.wrong_rule.Statement.{statement}
 use Rattle.judging.proofs.judge.wrong_rule.Tie as tie
 
 abbrev Inv-loop : tie.InvT-loop
-Inv-loop book start n end s₀ k₀ s k =
+Inv-loop book start n end w s₀ k₀ s k =
     (k ≤ n) × (s ≤ end) × (wrongRule book end start n ≡ wrongRule book end s (n - k))
 
 abbrev μ-loop : tie.MeasureT-loop
-μ-loop book start n end s₀ k₀ s k = n - k
+μ-loop book start n end w s₀ k₀ s k = n - k
 
 loop-holds : tie.Need-loop-holds Inv-loop μ-loop
 loop-holds c = (search needs, search needs, rw sub-zero)
 
 rule-end-requires : tie.Need-rule-end-requires Inv-loop μ-loop
-rule-end-requires c κs = (c .before .loop .inv .1, c .before .before .before .pre .1)
+rule-end-requires c κs =
+    let start = c .before .before .before in
+    (c .before .loop .inv .1, start .pre .1, start .pre .2)
 
 returns : tie.Need-returns Inv-loop μ-loop
 returns c =

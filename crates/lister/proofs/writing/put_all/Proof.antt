@@ -9,34 +9,33 @@ use Rattle.covering.specs.Buffer.{heldIn, AtomsIn, recordRoom}
 use Rattle.forming.specs.Building.{subOf}
 use Rattle.unify.specs.InBytes.{inBook}
 use Rattle.lister.specs.Listing.{Filling}
-use lib.ListN.{length}
-use borrow.Author.Needs.{needs}
-use Rattle.lister.proofs.RewritingBytes.{rest-in, first-fits, atom-on, filling-room, filling-put, put-more}
-use Rattle.lister.proofs.RewritingBytes.{first-atom-in, put-none}
+use Rattle.lister.proofs.RewritingBytes.{rest-in, first-fits, atom-on, filling-length, filling-room, filling-put}
+use Rattle.lister.proofs.RewritingBytes.{first-atom-in, put-none, put-more}
 use Rattle.lister.proofs.writing.put_all.Statement.{statement}
 use Rattle.lister.proofs.writing.put_all.Tie as tie
 
 abbrev Inv-loop : tie.InvT-loop
-Inv-loop table from i n done₀ at₀ left₀ done at left =
-    Filling done left
+Inv-loop kept₀ table from i n at₀ left₀ kept at left =
+    Filling kept left
     × AtomsIn inBook from at left
-    × (questionOf stored done₀ ++ on-question (subOf table) (atomsAt stored from i n)
-    ≡ questionOf stored done ++ on-question (subOf table) (atomsAt stored from at left))
+    × (questionOf stored kept₀ ++ on-question (subOf table) (atomsAt stored from i n)
+    ≡ questionOf stored kept ++ on-question (subOf table) (atomsAt stored from at left))
 
 abbrev μ-loop : tie.MeasureT-loop
-μ-loop table from i n done₀ at₀ left₀ done at left = left
+μ-loop kept₀ table from i n at₀ left₀ kept at left = left
 
 loop-holds : tie.Need-loop-holds Inv-loop μ-loop
-loop-holds c = (c .before .pre .0, c .before .pre .1, refl)
+loop-holds c = let pre = c .before .before .before .pre in (pre .0, pre .2, refl)
 
 put-on-requires : tie.Need-put-on-requires Inv-loop μ-loop
 put-on-requires c κs =
-    let l = c .before .loop in
-    let start = c .before .before .before in
-    let long : length (start .args .table) ≡ 64 = search needs in (
-      filling-room _ _ (l .inv .0) (omega arith),
-      first-atom-in _ _ _ (l .inv .1) (omega arith),
-      atom-on (start .args .table) (start .pre .2) long _ (first-fits _ _ _ (l .inv .1) (omega arith)),
+    let l = c .before .before in
+    let start = l .before .before .before .before in (
+      filling-room _ _ (l .loop .inv .0) (omega arith),
+      start .pre .1,
+      first-atom-in _ _ _ (l .loop .inv .1) (omega arith),
+      atom-on (start .args .table .now) (start .pre .3) (start .pre .1) _
+          (first-fits _ _ _ (l .loop .inv .1) (omega arith)),
     )
 
 add-at : tie.Need-add-at Inv-loop μ-loop
@@ -50,15 +49,22 @@ loop-less c = omega arith
 
 loop-again : tie.Need-loop-again Inv-loop μ-loop
 loop-again c =
-    let l = c .before .before .loop in
-    let start = c .before .before .before .before in
-    let long : length (start .args .table) ≡ 64 = search needs in
-    let fit = atom-on (start .args .table) (start .pre .2) long _ (first-fits _ _ _ (l .inv .1) (omega arith)) in
-    let r = filling-put (l .done) (c .put-on .result) (l .left) _ (l .inv .0) (omega arith) fit (c .put-on .ensures) in (
+    let p = c .before .before .put-on in
+    let l = c .before .before .before .before .before in
+    let start = l .before .before .before .before in
+    let table = start .args .table .now in
+    let fit = atom-on table (start .pre .3) (start .pre .1) _ (first-fits _ _ _ (l .loop .inv .1) (omega arith)) in
+    let r = filling-put (l .loop .kept) (p .last .0) (l .loop .left) _ (l .loop .inv .0) (omega arith) fit (p .ensures) in (
       r .0,
-      rest-in _ _ _ (l .inv .1) (omega arith),
-      l .inv .2 ∙ put-more (subOf (start .args .table)) (l .done) (c .put-on .result) _ _ (l .left) (omega arith) (r .1),
+      rest-in _ _ _ (l .loop .inv .1) (omega arith),
+      l .loop .inv .2
+          ∙ put-more (subOf table) (l .loop .kept) (p .last .0) _ _ (l .loop .left) (omega arith) (r .1),
     )
+
+same-length : tie.Need-same-length Inv-loop μ-loop
+same-length c =
+    let l = c .before in
+    filling-length _ _ (l .loop .inv .0) ∙ sym (filling-length _ _ (l .before .before .before .before .pre .0))
 
 returns : tie.Need-returns Inv-loop μ-loop
 returns c =
@@ -77,4 +83,5 @@ put-all-spec =
     sub-left
     loop-less
     loop-again
+    same-length
     returns)

@@ -5,7 +5,7 @@ use native.Mathlib.Omega.{arith}
 use Prim.Native.Nat.{ℕ, _<_}
 use Rattle.covering.specs.Record.{stored}
 use Rattle.covering.proofs.Places.{sound-more}
-use Rattle.printing.proofs.Putting.{put-none, put-as, then}
+use Rattle.covering.proofs.Putting.{put-none, put-as, then}
 use Rattle.printing.proofs.Texts.{atoms-end, atoms-next, atoms-length}
 use borrow.Fn.Kinds.{In}
 use borrow.Fn.PlainCycle.{Measures, is, falls, and}

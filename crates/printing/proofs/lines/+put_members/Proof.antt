@@ -7,19 +7,19 @@ use mathlib.Core.List.{_++_}
 use Prim.Native.Nat.{ℕ, _+_, _-_, _<_}
 use lib.ListN.{length}
 use Rattle.covering.specs.Lists.{gather}
-use Rattle.covering.specs.Record.{stored, width, atomsAt}
+use Rattle.covering.specs.Record.{newPlaces, stored, width, atomsAt}
 use Rattle.exploration.specs.Union.{membersFrom, memberEnd}
 use Rattle.exploration.specs.Standing.{MemberAt, WrittenAt}
 use Rattle.reading.specs.Word.{byte}
 use Rattle.printing.specs.Printed.{memberLine}
 use Rattle.printing.proofs.Texts.{members-end, members-next, members-length, first-stands}
-use Rattle.printing.proofs.Putting.{put-none, put-as, then}
+use Rattle.covering.proofs.Putting.{put-none, put-as, then}
 use borrow.Fn.Kinds.{In}
 use borrow.Fn.PlainCycle.{Measures, is, falls, and}
 use Rattle.printing.proofs.lines.put_members.Reads as put-members
 use Rattle.printing.proofs.lines.put_members.Kinds as put-members-kinds
 use Rattle.printing.proofs.lines.+put_members.Lts-put_members as put-members-lts
-use Rattle.cover.proofs.width.Reads as width-reads
+use Rattle.records.proofs.width.Reads as width-reads
 use Rattle.printing.proofs.lines.put_member.Reads as put-member-reads
 use Rattle.printing.proofs.lines.+put_members.{statement}
 use Rattle.printing.proofs.lines.+put_members.Tie.{close}
@@ -48,18 +48,18 @@ module _ (t : ℕ) where
 
   -- the first member, and the others
   there : (s : Begins) → 0 < s .args .n
-      → MemberAt (s .args .answers) (s .args .output .now) (s .args .i)
-      × WrittenAt (s .args .answers) (s .args .output .now) (memberEnd (s .args .answers) (s .args .output .now) (s .args .i))
+      → MemberAt newPlaces (s .args .answers) (s .args .output .now) (s .args .i)
+      × WrittenAt newPlaces (s .args .answers) (s .args .output .now) (memberEnd newPlaces (s .args .answers) (s .args .output .now) (s .args .i))
       (s .args .n - 1)
   there s h = first-stands (s .args .answers) (s .args .output .now) (s .args .i) (s .args .n) h (s .pre .1 .0)
 
   -- its line and those after it
   long : (s : Begins) → 0 < s .args .n
-      → length (gather memberLine (membersFrom (s .args .answers) (s .args .output .now) (s .args .i) (s .args .n)))
+      → length (gather memberLine (membersFrom newPlaces (s .args .answers) (s .args .output .now) (s .args .i) (s .args .n)))
       ≡ length (memberLine (atomsAt stored (s .args .output .now) (s .args .i + 1)
       (s .args .answers + byte (s .args .output .now) (s .args .i))))
-      + length (gather memberLine (membersFrom (s .args .answers) (s .args .output .now)
-      (memberEnd (s .args .answers) (s .args .output .now) (s .args .i)) (s .args .n - 1)))
+      + length (gather memberLine (membersFrom newPlaces (s .args .answers) (s .args .output .now)
+      (memberEnd newPlaces (s .args .answers) (s .args .output .now) (s .args .i)) (s .args .n - 1)))
   long s h = members-length (s .args .answers) (s .args .output .now) (s .args .i) (s .args .n) h
 
   shared-slice-read-count : put-members-lts.Need-shared-slice-read-count (calls t) (at-measure t) put-members.Post
@@ -102,10 +102,10 @@ module _ (t : ℕ) where
       let next =
       subst
       (λ (k : ℕ).
-      WrittenAt (a .answers) W (a .i + k) (a .n - 1)
-      × (length (gather memberLine (membersFrom (a .answers) W (a .i) (a .n)))
+      WrittenAt newPlaces (a .answers) W (a .i + k) (a .n - 1)
+      × (length (gather memberLine (membersFrom newPlaces (a .answers) W (a .i) (a .n)))
       ≡ length (memberLine (atomsAt stored W (a .i + 1) (a .answers + byte W (a .i))))
-      + length (gather memberLine (membersFrom (a .answers) W (a .i + k) (a .n - 1)))))
+      + length (gather memberLine (membersFrom newPlaces (a .answers) W (a .i + k) (a .n - 1)))))
       (sym (c .width .ensures)) (there s (omega arith) .1, long s (omega arith)) in
       (omega arith, (next .0, omega (arith, next .1)))
 
@@ -124,7 +124,7 @@ module _ (t : ℕ) where
       ∙ ap
       (λ (k : ℕ).
       memberLine (atomsAt stored W (a .i + 1) (a .answers + byte W (a .i)))
-      ++ gather memberLine (membersFrom (a .answers) W (a .i + k) (a .n - 1)))
+      ++ gather memberLine (membersFrom newPlaces (a .answers) W (a .i + k) (a .n - 1)))
       (sym (w .width .ensures)))
       (then (first .put-member .ensures) (second .put-members .ensures))
 

@@ -3,7 +3,7 @@
 use borrow.Author.Needs.{needs}
 use native.Mathlib.Omega.{arith}
 use Prim.Native.Nat.{ℕ, _<_}
-use Rattle.printing.proofs.Putting.{put-none, put-as, then}
+use Rattle.covering.proofs.Putting.{put-none, put-as, then}
 use Rattle.printing.proofs.Texts.{terms-none, terms-end, terms-more, terms-length}
 use borrow.Fn.Kinds.{In}
 use borrow.Fn.PlainCycle.{Measures, is, falls, and}

@@ -3,7 +3,7 @@ use borrow.Author.Needs.{needs}
 use native.Mathlib.Omega.{arith}
 use Rattle.covering.specs.Record.{stored}
 use Rattle.covering.proofs.Places.{sound-more}
-use Rattle.printing.proofs.Putting.{put-none, put-as, then}
+use Rattle.covering.proofs.Putting.{put-none, put-as, then}
 use Rattle.printing.proofs.Texts.{all-none, all-some, all-length}
 use Rattle.printing.proofs.lines.put_all.Statement.{statement}
 use Rattle.printing.proofs.lines.put_all.Tie as tie

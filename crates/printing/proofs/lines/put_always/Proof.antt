@@ -3,7 +3,7 @@ use borrow.Author.Needs.{needs}
 use native.Mathlib.Omega.{arith}
 use mathlib.Core.Path.{ap}
 use lib.ListN.{length}
-use Rattle.printing.proofs.Putting.{put-none, put-as}
+use Rattle.covering.proofs.Putting.{put-none, put-as}
 use Rattle.printing.proofs.Texts.{always-not, always-alone, always-after}
 use Rattle.printing.proofs.lines.put_always.Statement.{statement}
 use Rattle.printing.proofs.lines.put_always.Tie as tie

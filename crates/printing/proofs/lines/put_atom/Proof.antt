@@ -1,7 +1,7 @@
 -- `printing::lines::put_atom` meets its contract: five puts one after the other.
 use borrow.Author.Needs.{needs}
 use native.Mathlib.Omega.{arith}
-use Rattle.printing.proofs.Putting.{put-as, then}
+use Rattle.covering.proofs.Putting.{put-as, then}
 use Rattle.printing.proofs.Texts.{atom-text, atom-length}
 use Rattle.printing.proofs.lines.put_atom.Statement.{statement}
 use Rattle.printing.proofs.lines.put_atom.Tie as tie

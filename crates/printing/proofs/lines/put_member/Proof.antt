@@ -1,7 +1,7 @@
 -- `printing::lines::put_member` meets its contract.
 use borrow.Author.Needs.{needs}
 use native.Mathlib.Omega.{arith}
-use Rattle.printing.proofs.Putting.{put-as, then}
+use Rattle.covering.proofs.Putting.{put-as, then}
 use Rattle.printing.proofs.Texts.{member-text, member-length}
 use Rattle.printing.proofs.lines.put_member.Statement.{statement}
 use Rattle.printing.proofs.lines.put_member.Tie as tie

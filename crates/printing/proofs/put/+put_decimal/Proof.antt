@@ -4,7 +4,7 @@ use native.Mathlib.Omega.{arith}
 use Prim.Native.Nat.{ℕ, _<_}
 use borrow.Fn.Kinds.{In}
 use borrow.Fn.PlainCycle.{Measures, is, falls, and}
-use Rattle.printing.proofs.Putting.{put-as, then}
+use Rattle.covering.proofs.Putting.{put-as, then}
 use Rattle.printing.proofs.Decimal.{decimal-one, decimal-more, one-length, more-length}
 use Rattle.printing.proofs.put.put_decimal.Reads as put-decimal
 use Rattle.printing.proofs.put.put_decimal.Kinds as put-decimal-kinds

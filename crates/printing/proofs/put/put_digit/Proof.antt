@@ -1,6 +1,6 @@
 -- `printing::put::put_digit` meets its contract: one byte is stored.
 use borrow.Author.Needs.{needs}
-use Rattle.printing.proofs.Putting.{put-one}
+use Rattle.covering.proofs.Putting.{put-one}
 use Rattle.printing.proofs.put.put_digit.Statement.{statement}
 use Rattle.printing.proofs.put.put_digit.Tie as tie
 

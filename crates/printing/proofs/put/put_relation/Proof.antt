@@ -1,7 +1,7 @@
 -- `printing::put::put_relation` meets its contract: the letter of an answer record, or r and the number.
 use borrow.Author.Needs.{needs}
 use native.Mathlib.Omega.{arith}
-use Rattle.printing.proofs.Putting.{put-as, then}
+use Rattle.covering.proofs.Putting.{put-as, then}
 use Rattle.printing.proofs.Texts.{answer-text, answer-length, numbered-text, numbered-length}
 use Rattle.printing.proofs.put.put_relation.Statement.{statement}
 use Rattle.printing.proofs.put.put_relation.Tie as tie

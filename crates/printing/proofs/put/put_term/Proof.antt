@@ -1,7 +1,7 @@
 -- `printing::put::put_term` meets its contract: the letter, then the number.
 use borrow.Author.Needs.{needs}
 use native.Mathlib.Omega.{arith}
-use Rattle.printing.proofs.Putting.{put-as, then}
+use Rattle.covering.proofs.Putting.{put-as, then}
 use Rattle.printing.proofs.Texts.{variable-text, constant-text, variable-length, constant-length}
 use Rattle.printing.proofs.put.put_term.Statement.{statement}
 use Rattle.printing.proofs.put.put_term.Tie as tie

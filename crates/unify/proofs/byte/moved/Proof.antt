@@ -1,4 +1,4 @@
--- `unify::byte::moved` meets its contract: a variable goes up by 32, a constant stays.
+-- `unify::byte::moved` meets its contract: a variable goes up by 48, a constant stays.
 use borrow.Author.Needs.{needs}
 use Rattle.unify.proofs.TableBytes.{moved-variable, moved-constant}
 use Rattle.unify.proofs.byte.moved.Statement.{statement}

@@ -5,7 +5,7 @@ use Rattle.unify.proofs.joining.all_apart.Statement.{statement}
 use Rattle.unify.proofs.joining.all_apart.Tie as tie
 
 returns : tie.Need-returns
-returns c = own-bytes 64 0 (omega arith)
+returns c = own-bytes 96 0 (omega arith)
 
 pub all-apart-spec : {M : Type 1} → statement M
 all-apart-spec = tie.close (tie.spec returns)

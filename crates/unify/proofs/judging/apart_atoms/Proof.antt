@@ -26,23 +26,27 @@ abbrev μ-loop : tie.MeasureT-loop
 μ-loop s i n shift z rep table at₀ more₀ at more = more
 
 loop-holds : tie.Need-loop-holds Inv-loop μ-loop
-loop-holds c = (c .before .pre .0, refl)
+loop-holds c = (c .before .before .pre .0, refl)
 
 add-apart-places : tie.Need-add-apart-places Inv-loop μ-loop
 add-apart-places c = omega arith
 
 apart-places-requires : tie.Need-apart-places-requires Inv-loop μ-loop
 apart-places-requires c κs =
-    let l = c .before .loop in
-    (omega arith, omega arith, atom-used inBook _ _ (sound-more inBook _ _ _ (omega arith) (l .inv .0 .sound) .0))
+    let l = c .before in (
+      omega arith,
+      omega arith,
+      atom-used inBook _ _ (sound-more inBook _ _ _ (omega arith) (l .loop .inv .0 .sound) .0),
+      l .before .before .before .pre .2,
+    )
 
 returns : tie.Need-returns Inv-loop μ-loop
 returns c =
     let l = c .before .before .before in
-    let a = l .before .before .args in
+    let a = l .before .before .before .args in
     sym
     (l .loop .inv .1
-    ∙ each-term-fails (apartByte (a .table) (a .z) (a .rep)) stored _ _ _ _ (omega arith)
+    ∙ each-term-fails (apartByte (a .table .now) (a .z) (a .rep)) stored _ _ _ _ (omega arith)
     (c .before .apart-places .ensures) (not-true _ (c .if1 .taken)))
 
 add-at : tie.Need-add-at Inv-loop μ-loop
@@ -57,17 +61,17 @@ loop-less c = omega arith
 loop-again : tie.Need-loop-again Inv-loop μ-loop
 loop-again c =
     let l = c .before .before .before in
-    let a = l .before .before .args in (
+    let a = l .before .before .before .args in (
       record { fits = omega arith; sound = sound-more inBook _ _ _ (omega arith) (l .loop .inv .0 .sound) .1 },
       l .loop .inv .1
-          ∙ each-term-passes (apartByte (a .table) (a .z) (a .rep)) stored _ _ _ _ (omega arith)
+          ∙ each-term-passes (apartByte (a .table .now) (a .z) (a .rep)) stored _ _ _ _ (omega arith)
           (c .before .apart-places .ensures) (not-false _ (c .if1 .left)),
     )
 
 returns-2 : tie.Need-returns-2 Inv-loop μ-loop
 returns-2 c =
-    let a = c .before .before .before .args in
-    sym (c .before .loop .inv .1 ∙ each-term-none (apartByte (a .table) (a .z) (a .rep)) stored _ _ _ _ (omega arith))
+    let a = c .before .before .before .before .args in
+    sym (c .before .loop .inv .1 ∙ each-term-none (apartByte (a .table .now) (a .z) (a .rep)) stored _ _ _ _ (omega arith))
 
 pub apart-atoms-spec : {M : Type 1} → statement M
 apart-atoms-spec =

@@ -21,16 +21,16 @@ use Rattle.unify.proofs.judging.apart_places.Tie as tie
 
 abbrev Inv-loop : tie.InvT-loop
 Inv-loop s i shift z rep table j₀ j =
-    (j ≤ 4)
-    × T (usedFirst inBook s (i + j) (4 - j))
-    × (all (apartByte table z rep) (map (on-term (up shift)) (argsAt s i 4))
-    ≡ all (apartByte table z rep) (map (on-term (up shift)) (argsAt s (i + j) (4 - j))))
+    (j ≤ 6)
+    × T (usedFirst inBook s (i + j) (6 - j))
+    × (all (apartByte table z rep) (map (on-term (up shift)) (argsAt s i 6))
+    ≡ all (apartByte table z rep) (map (on-term (up shift)) (argsAt s (i + j) (6 - j))))
 
 abbrev μ-loop : tie.MeasureT-loop
-μ-loop s i shift z rep table j₀ j = 4 - j
+μ-loop s i shift z rep table j₀ j = 6 - j
 
 loop-holds : tie.Need-loop-holds Inv-loop μ-loop
-loop-holds c = (omega arith, rw add-zero (c .before .pre .2), rw add-zero refl)
+loop-holds c = (omega arith, rw add-zero (c .before .before .pre .2), rw add-zero refl)
 
 add-u : tie.Need-add-u Inv-loop μ-loop
 add-u c = omega arith
@@ -40,25 +40,25 @@ shared-slice-read-u c = omega arith
 
 returns : tie.Need-returns Inv-loop μ-loop
 returns c =
-    sym (c .before .before .before .loop .inv .2 ∙ each-place-end _ _ _ _ 4 (omega arith) _ (c .if1 .taken))
+    sym (c .before .before .before .loop .inv .2 ∙ each-place-end _ _ _ _ 6 (omega arith) _ (c .if1 .taken))
 
 shifted-requires : tie.Need-shifted-requires Inv-loop μ-loop
 shifted-requires c κs =
     let l = c .before .before .before in
-    let a = l .before .before .args in
-    let u = used-more (a .s .now) (a .i) (l .loop .j) 4 (omega arith) inBook (l .loop .inv .1) (c .if1 .left) in
+    let a = l .before .before .before .args in
+    let u = used-more (a .s .now) (a .i) (l .loop .j) 6 (omega arith) inBook (l .loop .inv .1) (c .if1 .left) in
     (term-constant inBook _ (u .0), omega arith)
 
 is-apart-requires : tie.Need-is-apart-requires Inv-loop μ-loop
-is-apart-requires c κs = search needs
+is-apart-requires c κs = c .before .before .before .before .before .before .before .pre .3
 
 returns-2 : tie.Need-returns-2 Inv-loop μ-loop
 returns-2 c =
     let l = c .before .before .before .before .before .before in
-    let a = l .before .before .args in
+    let a = l .before .before .before .args in
     sym
     (l .loop .inv .2
-    ∙ each-place-fails (apartByte (a .table) (a .z) (a .rep)) _ _ _ 4 (omega arith) _
+    ∙ each-place-fails (apartByte (a .table .now) (a .z) (a .rep)) _ _ _ 6 (omega arith) _
     (c .before .before .before .if1 .left)
     (c .before .before .shifted .ensures) (c .before .is-apart .ensures) (not-true _ (c .if2 .taken)))
 
@@ -71,12 +71,12 @@ loop-less c = omega arith
 loop-again : tie.Need-loop-again Inv-loop μ-loop
 loop-again c =
     let l = c .before .before .before .before .before .before in
-    let a = l .before .before .args in
+    let a = l .before .before .before .args in
     let used = c .before .before .before .if1 .left in (
       omega arith,
-      used-more (a .s .now) (a .i) (l .loop .j) 4 (omega arith) inBook (l .loop .inv .1) used .1,
+      used-more (a .s .now) (a .i) (l .loop .j) 6 (omega arith) inBook (l .loop .inv .1) used .1,
       l .loop .inv .2
-          ∙ each-place-passes (apartByte (a .table) (a .z) (a .rep)) _ _ _ 4 (omega arith) _ used
+          ∙ each-place-passes (apartByte (a .table .now) (a .z) (a .rep)) _ _ _ 6 (omega arith) _ used
           (c .before .before .shifted .ensures) (c .before .is-apart .ensures) (not-false _ (c .if2 .left)),
     )
 

@@ -13,7 +13,7 @@ use Rattle.unify.proofs.judging.in_atoms.Tie as tie
 
 abbrev Inv-loop : tie.InvT-loop
 Inv-loop s i n t at₀ more₀ at more =
-    (at + more * 5 ≤ length s)
+    (at + more * 7 ≤ length s)
     × (memTerm (termOf t) (terms (atomsAt stored s i n)) ≡ memTerm (termOf t) (terms (atomsAt stored s at more)))
 
 abbrev μ-loop : tie.MeasureT-loop

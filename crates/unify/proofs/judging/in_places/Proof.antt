@@ -13,10 +13,10 @@ use Rattle.unify.proofs.judging.in_places.Statement.{statement}
 use Rattle.unify.proofs.judging.in_places.Tie as tie
 
 abbrev Inv-loop : tie.InvT-loop
-Inv-loop s i t j₀ j = (j ≤ 4) × (memTerm (termOf t) (argsAt s i 4) ≡ memTerm (termOf t) (argsAt s (i + j) (4 - j)))
+Inv-loop s i t j₀ j = (j ≤ 6) × (memTerm (termOf t) (argsAt s i 6) ≡ memTerm (termOf t) (argsAt s (i + j) (6 - j)))
 
 abbrev μ-loop : tie.MeasureT-loop
-μ-loop s i t j₀ j = 4 - j
+μ-loop s i t j₀ j = 6 - j
 
 loop-holds : tie.Need-loop-holds Inv-loop μ-loop
 loop-holds c = (omega arith, rw add-zero refl)
@@ -28,13 +28,13 @@ shared-slice-read-u : tie.Need-shared-slice-read-u Inv-loop μ-loop
 shared-slice-read-u c = omega arith
 
 returns : tie.Need-returns Inv-loop μ-loop
-returns c = sym (c .before .before .before .loop .inv .1 ∙ some-place-end _ _ _ _ 4 (omega arith) (c .if1 .taken))
+returns c = sym (c .before .before .before .loop .inv .1 ∙ some-place-end _ _ _ _ 6 (omega arith) (c .if1 .taken))
 
 returns-2 : tie.Need-returns-2 Inv-loop μ-loop
 returns-2 c =
     sym
     (c .before .before .before .before .loop .inv .1
-    ∙ some-place-hit _ _ _ _ 4 (omega arith) (c .before .if1 .left) (term-same _ _ ∙ eq-eqb _ _ (c .if2 .taken)))
+    ∙ some-place-hit _ _ _ _ 6 (omega arith) (c .before .if1 .left) (term-same _ _ ∙ eq-eqb _ _ (c .if2 .taken)))
 
 add-j : tie.Need-add-j Inv-loop μ-loop
 add-j c = omega arith
@@ -46,7 +46,7 @@ loop-again : tie.Need-loop-again Inv-loop μ-loop
 loop-again c = (
   omega arith,
   c .before .before .before .before .loop .inv .1
-      ∙ some-place-miss _ _ _ _ 4 (omega arith) (c .before .if1 .left) (term-same _ _ ∙ ne-eqb _ _ (c .if2 .left)),
+      ∙ some-place-miss _ _ _ _ 6 (omega arith) (c .before .if1 .left) (term-same _ _ ∙ ne-eqb _ _ (c .if2 .left)),
 )
 
 returns-3 : tie.Need-returns-3 Inv-loop μ-loop

@@ -12,10 +12,10 @@ use Rattle.unify.proofs.judging.is_allowed.Tie as tie
 
 returns : tie.Need-returns
 returns c =
-    let a = c .before .before .before .args in
+    let a = c .before .before .before .before .args in
     let rule = ruleIn (a .book .now) (a .body) (a .bodies) (a .head) (a .heads) in
-    let σ = tabled (classesOf (a .table)) in
-    sym (allowed-constant 32 rule (termOf (a .u)) σ (leftIn (a .left .now)) (is-con _ (c .if1 .taken)))
+    let σ = tabled (classesOf (a .table .now)) in
+    sym (allowed-constant 48 rule (termOf (a .u)) σ (leftIn (a .left .now)) (is-con _ (c .if1 .taken)))
 
 in-atoms-requires : tie.Need-in-atoms-requires
 in-atoms-requires c κs = search needs
@@ -23,11 +23,11 @@ in-atoms-requires c κs = search needs
 returns-2 : tie.Need-returns-2
 unfolding ruleIn
 returns-2 c =
-    let a = c .before .before .before .before .before .args in
+    let a = c .before .before .before .before .before .before .args in
     let rule = ruleIn (a .book .now) (a .body) (a .bodies) (a .head) (a .heads) in
-    let σ = tabled (classesOf (a .table)) in
+    let σ = tabled (classesOf (a .table .now)) in
     sym
-    (allowed-frontier 32 rule (termOf (a .u)) σ (leftIn (a .left .now))
+    (allowed-frontier 48 rule (termOf (a .u)) σ (leftIn (a .left .now))
     (is-var _ (c .before .before .if1 .left))
     (c .before .in-atoms .ensures) (c .if2 .taken))
 
@@ -40,10 +40,10 @@ is-safe-requires c κs = search needs
 returns-3 : tie.Need-returns-3
 unfolding ruleIn
 returns-3 c =
-    let a = c .before .before .before .before .before .before .before .args in
+    let a = c .before .before .before .before .before .before .before .before .args in
     let rule = ruleIn (a .book .now) (a .body) (a .bodies) (a .head) (a .heads) in
-    let σ = tabled (classesOf (a .table)) in
-    allowed-unknown 32 rule (termOf (a .u)) σ (leftIn (a .left .now))
+    let σ = tabled (classesOf (a .table .now)) in
+    allowed-unknown 48 rule (termOf (a .u)) σ (leftIn (a .left .now))
     (is-var _ (c .before .before .before .before .if1 .left))
     (c .before .before .before .in-atoms .ensures) (c .before .before .if2 .left) (c .before .moved .ensures)
     (c .is-safe .ensures)

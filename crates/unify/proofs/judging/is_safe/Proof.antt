@@ -15,10 +15,10 @@ stands-for-requires c κs = search needs
 returns : tie.Need-returns
 returns c =
     let s = c .before .stands-for in
-    let a = c .before .before .before .before .args in
+    let a = c .before .before .before .before .before .args in
     let rule = ruleIn (a .book .now) (a .body) (a .bodies) (a .head) (a .heads) in
     sym
-    (safe-constant (classesOf (a .table)) 32 (leftIn (a .left .now)) rule (termOf (a .z)) (termOf (s .result))
+    (safe-constant (classesOf (a .table .now)) 48 (leftIn (a .left .now)) rule (termOf (a .z)) (termOf (s .result))
     (s .ensures) (is-con _ (c .if1 .taken)))
 
 shared-slice-read-n : tie.Need-shared-slice-read-n
@@ -33,10 +33,10 @@ apart-atoms-requires c κs = search needs
 returns-2 : tie.Need-returns-2
 returns-2 c =
     let s = c .before .before .before .before .stands-for in
-    let a = c .before .before .before .before .before .before .before .args in
+    let a = c .before .before .before .before .before .before .before .before .args in
     let rule = ruleIn (a .book .now) (a .body) (a .bodies) (a .head) (a .heads) in
     sym
-    (safe-left (classesOf (a .table)) 32 (leftIn (a .left .now)) rule (termOf (a .z)) (termOf (s .result))
+    (safe-left (classesOf (a .table .now)) 48 (leftIn (a .left .now)) rule (termOf (a .z)) (termOf (s .result))
     (s .ensures) (is-var _ (c .before .before .before .if1 .left))
     (c .before .apart-atoms .ensures) (not-true _ (c .if2 .taken)))
 
@@ -47,11 +47,11 @@ returns-3 : tie.Need-returns-3
 unfolding ruleIn
 returns-3 c =
     let s = c .before .before .before .before .before .before .stands-for in
-    let a = c .before .before .before .before .before .before .before .before .before .args in
+    let a = c .before .before .before .before .before .before .before .before .before .before .args in
     let rule = ruleIn (a .book .now) (a .body) (a .bodies) (a .head) (a .heads) in
     let v = c .before .before .before .before .before .if1 .left in
     sym
-    (safe-body (classesOf (a .table)) 32 (leftIn (a .left .now)) rule (termOf (a .z)) (termOf (s .result))
+    (safe-body (classesOf (a .table .now)) 48 (leftIn (a .left .now)) rule (termOf (a .z)) (termOf (s .result))
     (s .ensures) (is-var _ v)
     (c .before .before .before .apart-atoms .ensures) (not-false _ (c .before .before .if2 .left))
     (c .before .apart-atoms2 .ensures) (not-true _ (c .if3 .taken)))
@@ -63,10 +63,10 @@ returns-4 : tie.Need-returns-4
 unfolding ruleIn
 returns-4 c =
     let s = c .before .before .before .before .before .before .before .stands-for in
-    let a = c .before .before .before .before .before .before .before .before .before .before .args in
+    let a = c .before .before .before .before .before .before .before .before .before .before .before .args in
     let rule = ruleIn (a .book .now) (a .body) (a .bodies) (a .head) (a .heads) in
     let v = c .before .before .before .before .before .before .if1 .left in
-    safe-head (classesOf (a .table)) 32 (leftIn (a .left .now)) rule (termOf (a .z)) (termOf (s .result))
+    safe-head (classesOf (a .table .now)) 48 (leftIn (a .left .now)) rule (termOf (a .z)) (termOf (s .result))
     (s .ensures) (is-var _ v)
     (c .before .before .before .before .apart-atoms .ensures) (not-false _ (c .before .before .before .if2 .left))
     (c .before .before .apart-atoms2 .ensures) (not-false _ (c .before .if3 .left)) (c .apart-atoms3 .ensures)

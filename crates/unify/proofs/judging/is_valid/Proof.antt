@@ -19,40 +19,39 @@ use Rattle.unify.proofs.judging.is_valid.Statement.{statement}
 use Rattle.unify.proofs.judging.is_valid.Tie as tie
 
 abbrev Inv-loop : tie.InvT-loop
-Inv-loop book body bodies head heads table left at₀ more₀ at more =
+Inv-loop left book body bodies head heads table at₀ more₀ at more =
     AtomsIn inBook book at more
-    × (valid (tabled (classesOf table)) (questionOf stored left) (move 32 (ruleIn book body bodies head heads))
+    × (valid (tabled (classesOf table)) (questionOf stored left) (move 48 (ruleIn book body bodies head heads))
     ≡ all
     (allowedByte left book body bodies head heads table)
-    (terms (on-question (up 32) (atomsAt stored book at more))))
+    (terms (on-question (up 48) (atomsAt stored book at more))))
 
 abbrev μ-loop : tie.MeasureT-loop
-μ-loop book body bodies head heads table left at₀ more₀ at more = more
+μ-loop left book body bodies head heads table at₀ more₀ at more = more
 
 loop-holds : tie.Need-loop-holds Inv-loop μ-loop
 unfolding ruleIn
 loop-holds c =
-    let a = c .before .args in
-    let r = move 32 (ruleIn (a .book .now) (a .body) (a .bodies) (a .head) (a .heads)) in
-    (c .before .pre .2, ap (λ (L : Question). valid (tabled (classesOf (a .table))) L r) (question-at stored (a .t1) refl))
-
-slice-aggregate-allowed-places : tie.Need-slice-aggregate-allowed-places Inv-loop μ-loop
-slice-aggregate-allowed-places c = search needs
+    let start = c .before .before .before in
+    let a = start .args in
+    let r = move 48 (ruleIn (a .book .now) (a .body) (a .bodies) (a .head) (a .heads)) in
+    let σ = tabled (classesOf (a .table .now)) in
+    (start .pre .2, ap (λ (L : Question). valid σ L r) (question-at stored (a .left .now) refl))
 
 add-allowed-places : tie.Need-add-allowed-places Inv-loop μ-loop
 add-allowed-places c = omega arith
 
 allowed-places-requires : tie.Need-allowed-places-requires Inv-loop μ-loop
 allowed-places-requires c κs =
-    let l = c .before .before in
-    let p = l .before .before .pre in
+    let l = c .before in
+    let p = l .before .before .before .before .pre in
     let s = sound-more inBook _ _ _ (omega arith) (l .loop .inv .0 .sound) in
-    (p .0, p .1, p .2, omega arith, atom-used inBook _ _ (s .0))
+    (p .0, p .1, p .2, omega arith, atom-used inBook _ _ (s .0), p .3)
 
 returns : tie.Need-returns Inv-loop μ-loop
 returns c =
     sym
-    (c .before .before .before .before .loop .inv .1
+    (c .before .before .before .loop .inv .1
     ∙ each-term-fails _ stored _ _ _ _ (omega arith)
     (c .before .allowed-places .ensures) (not-true _ (c .if1 .taken)))
 
@@ -67,7 +66,7 @@ loop-less c = omega arith
 
 loop-again : tie.Need-loop-again Inv-loop μ-loop
 loop-again c =
-    let l = c .before .before .before .before .loop in (
+    let l = c .before .before .before .loop in (
       record { fits = omega arith; sound = sound-more inBook _ _ _ (omega arith) (l .inv .0 .sound) .1 },
       l .inv .1
           ∙ each-term-passes _ stored _ _ _ _ (omega arith)
@@ -84,7 +83,6 @@ is-valid-spec =
     Inv-loop
     μ-loop
     loop-holds
-    slice-aggregate-allowed-places
     add-allowed-places
     allowed-places-requires
     returns

@@ -1,0 +1,39 @@
+-- `lister::builder::can_be_valid` meets its contract: what is asked only where something was sent, a rule without
+-- existential variables answers with yes, and any other by the test.
+use borrow.Author.Needs.{needs}
+use mathlib.Core.Path.{sym, _∙_}
+use borrow.Author.Tests.{not-true}
+use lib.ListN.{length}
+use mathlib.Core.Path.{_≡_}
+use Rattle.covering.specs.Record.{questionOf, stored}
+use Rattle.unify.specs.Table.{tabled}
+use Rattle.unify.specs.InBytes.{classesOf}
+use Rattle.unify.proofs.ValidTests.{no-unknowns}
+use Rattle.lister.specs.Listing.{ruleOf}
+use Rattle.lister.proofs.builder.can_be_valid.Statement.{statement}
+use Rattle.lister.proofs.builder.can_be_valid.Tie as tie
+
+returns : tie.Need-returns
+returns c = rw (c .if1 .taken)
+
+returns-2 : tie.Need-returns-2
+returns-2 c =
+    let start = c .before .before .before in
+    let a = start .args in
+    let without = sym (start .pre .2) ∙ not-true _ (c .if2 .taken) in
+    rw (c .before .if1 .left)
+    (sym
+    (no-unknowns 48 (ruleOf (a .book .now) (a .rule)) without (tabled (classesOf (a .table .now)))
+    (questionOf stored (a .left .now))))
+
+is-valid-requires : tie.Need-is-valid-requires
+is-valid-requires c κs =
+    let start = c .before .before .before .before .before in
+    let long : length (start .args .table .now) ≡ 96 = search needs in
+    (start .pre .1 .atoms, start .pre .0 .body, start .pre .0 .head, long)
+
+returns-3 : tie.Need-returns-3
+returns-3 c = rw (c .before .before .before .before .if1 .left) (c .is-valid .ensures)
+
+pub can-be-valid-spec : {M : Type 1} → statement M
+can-be-valid-spec = tie.close (tie.spec returns returns-2 is-valid-requires returns-3)
