@@ -1,14 +1,14 @@
 -- Where the exploration may go on after a choice (`specs/Skipping`): if a member covers what the first digits of the
 -- choice settle, after all choices that have them. Assumes nothing.
 use mathlib.Core.Path.{_≡_, refl, sym, _∙_, ap, subst}
-use mathlib.Core.Bool.{Bool, true, false, true≢false}
+use mathlib.Core.Bool.{Bool, true, false, true≢false, cond}
 use mathlib.Core.List.{List}
 use mathlib.Core.Option.{Option, none, some, Option·some-injective}
 use Prim.Native.Nat.{ℕ, suc, _+_, _*_, _-_, _/_, _≤_, _<_}
 use native.Mathlib.Nat.{add-mul, div-add-mod', mod-lt, div-mul-le-self}
 use native.Mathlib.Omega.{arith}
-use lib.Dec.{T}
-use lib.ListN.{length, take}
+use lib.Dec.{T, leb}
+use lib.ListN.{length, take, drop}
 use Rattle.covering.specs.Covers.{Covers}
 use Rattle.covering.specs.Lists.{_∈_, bind}
 use Rattle.covering.specs.Term.{Question, Sub, var}
@@ -21,11 +21,12 @@ use Rattle.covering.proofs.Lists.{any-in, any-out}
 use Rattle.covering.proofs.Padded.{stored-question, stored-sound}
 use Rattle.covering.proofs.Tests.{none≢some, true→T}
 use Rattle.unification.specs.Classes.{unify}
-use Rattle.unification.specs.Choice.{Choice, count, number, left, pairing}
+use Rattle.unification.specs.Choice.{Choice, count, number, pairing}
 use Rattle.unification.specs.Step.{move, rewriting, listed}
 use Rattle.unification.proofs.Prefix.{count-some, prefix-covered}
 use Rattle.lister.specs.declared.Settled.{Settled}
-use Rattle.lister.specs.FirstDigits.{settled, settledOf, PrefixIs}
+use Rattle.lister.specs.FirstDigits.{unmet, surelyLeft, settled, settledOf, PrefixIs}
+use Rattle.lister.proofs.Unmet.{unmet-are}
 use Rattle.exploration.specs.Run.{covered, apart}
 use Rattle.explore.specs.Skipping.{coversSettled, PrefixCovered, GoesOn}
 
@@ -36,7 +37,7 @@ goes-next r M U c = record { later = omega arith; between = λ i P m l u. absurd
 -- what the lister said of the first p digits
 module _ {r : Rule} {M : Question} {c p : ℕ} {x : Settled} (i : PrefixIs r M c p x) where
   abbrev here : Option Question
-  here = settled apart r (take p M) (take p (i .choice))
+  here = settled apart r M p (i .choice)
 
   -- they cannot be sent, so nothing is covered
   pub unmet-covered : (U : List Question) → x .met ≡ false → PrefixCovered r M U c p false
@@ -97,26 +98,24 @@ module _ {r : Rule} {M : Question} {U : List Question} {c p : ℕ} (k : PrefixCo
     some-choices : 1 ≤ each
     some-choices = count-some h (length M - p)
 
+    abbrev L : Question
+    L = surelyLeft r M p (k .choice)
+
     record Covering : Type 0 where
       member : Question
       among : member ∈ U
       classes : Sub
       found : unify (pairing (take p (k .choice)) (take p M) ((move apart r) .head)) var ≡ some classes
-      covering : Covers member (rewriting classes (left (take p (k .choice)) (take p M)) (move apart r))
+      covering : Covers member (rewriting classes L (move apart r))
 
     covering-member : Covering
     covering-member = go (unify (pairing (take p (k .choice)) (take p M) ((move apart r) .head)) var) refl (k .is)
       where
-        L : Question
-        L = left (take p (k .choice)) (take p M)
-
-        go : (o : Option Sub) → unify (pairing (take p (k .choice)) (take p M) ((move apart r) .head)) var ≡ o
-            → true
-            ≡ coversSettled U (bind o (λ σ. some (rewriting σ (left (take p (k .choice)) (take p M)) (move apart r))))
-            → Covering
-        go none f e = absurd (true≢false e)
-        go (some σ) f e =
-            let n = any-out (λ N. covers N (rewriting σ (left (take p (k .choice)) (take p M)) (move apart r))) U (true→T _ (sym e)) in
+        at : (σ : Sub) → unify (pairing (take p (k .choice)) (take p M) ((move apart r) .head)) var ≡ some σ → (few : Bool)
+            → true ≡ coversSettled U (cond few (some (rewriting σ L (move apart r))) none) → Covering
+        at σ f false e = absurd (true≢false e)
+        at σ f true e =
+            let n = any-out (λ N. covers N (rewriting σ L (move apart r))) U (true→T _ (sym e)) in
             record {
               member = n .0;
               among = n .1;
@@ -124,6 +123,12 @@ module _ {r : Rule} {M : Question} {U : List Question} {c p : ℕ} (k : PrefixCo
               found = f;
               covering = covers-decides (n .0) _ .0 (n .2);
             }
+
+        go : (o : Option Sub) → unify (pairing (take p (k .choice)) (take p M) ((move apart r) .head)) var ≡ o
+            → true
+            ≡ coversSettled U (bind o (λ σ. cond (leb (length L) 8) (some (rewriting σ L (move apart r))) none)) → Covering
+        go none f e = absurd (true≢false e)
+        go (some σ) f e = at σ f (leb (length L) 8) e
 
     goes-after-each : GoesOn r M U c ((c / each + 1) * each)
     goes-after-each =
@@ -147,8 +152,9 @@ module _ {r : Rule} {M : Question} {U : List Question} {c p : ℕ} (k : PrefixCo
             ap (λ (x : ℕ). (x + 1) * each) place in
             any-in (λ N. covers N P) U (n .among)
             (covers-decides (n .member) P .1
-            (prefix-covered apart r M p (length M - p) split (k .choice) (k .among) (n .classes) (n .found) (n .member)
-            (n .covering) i P m (omega arith) (omega arith)))
+            (prefix-covered apart r M p (length M - p) split (k .choice) (k .among) (n .classes) (n .found)
+            (unmet (r .head) (drop p M)) (unmet-are (r .head) M p) (n .member) (n .covering) i P m (omega arith)
+            (omega arith)))
 
     pub goes-after : (e : ℕ) → e ≡ count (length (r .head)) (length M - p) → {n : ℕ} → n ≡ (c / e + 1) * e
         → GoesOn r M U c n

@@ -5,7 +5,7 @@ use mathlib.Core.List.{List}
 use mathlib.Core.Option.{Option, none, some}
 use Prim.Native.Nat.{ℕ, suc, _≤_, _<_}
 use lib.Dec.{T}
-use lib.ListN.{length, take}
+use lib.ListN.{length}
 use Rattle.covering.specs.Lists.{_∈_}
 use Rattle.covering.specs.Term.{Question}
 use Rattle.covering.specs.Search.{covers}
@@ -25,7 +25,7 @@ pub record PrefixCovered (r : Rule) (M : Question) (U : List Question) (c p : �
   pub choice : Choice
   pub among : choice ∈ choices (length (r .head)) (length M)
   pub place : number (length (r .head)) choice ≡ c
-  pub is : ok ≡ coversSettled U (settled apart r (take p M) (take p choice))
+  pub is : ok ≡ coversSettled U (settled apart r M p choice)
 
 -- after the choice with number c the exploration of M by r may go on at the number n: one of U covers each rewriting
 -- that is listed between

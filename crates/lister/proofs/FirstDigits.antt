@@ -1,7 +1,7 @@
 -- The first digits of a choice, one digit more at a time: what the loop of `prefix_rewriting` keeps, and what a digit
 -- adds to the atoms left and to the classes. Assumes nothing.
 use mathlib.Core.Path.{_≡_, refl, sym, _∙_, ap, ap₂, subst}
-use mathlib.Core.Bool.{Bool, true, false}
+use mathlib.Core.Bool.{Bool, true, false, cond}
 use mathlib.Core.Logic.{_⊎_, inl, inr}
 use mathlib.Core.List.{List, [], _∷_, _++_, append-nil, List·Memᴰ·append-cases, List·Memᴰ·eq-of-singleton}
 use mathlib.Core.List.{List·Memᴰ·head, List·Memᴰ·tail, List·Memᴰ·not-nil}
@@ -9,7 +9,7 @@ use mathlib.Core.Option.{Option, none, some, Option·some-injective}
 use Prim.Native.Nat.{ℕ, zero, suc, _+_, _*_, _-_, _/_, _%_, _≤_, _<_}
 use native.Mathlib.Nat.{mod-eq-sub-div-mul, div-eq-of-lt-le, add-mul}
 use native.Mathlib.Omega.{arith}
-use lib.Dec.{T}
+use lib.Dec.{T, leb, leb→le, le→leb}
 use lib.ListN.{length, getD, take, drop, length-append, length-map}
 use lib.Seq.{take-suc, drop-cons, take-add, length-take-le}
 use Rattle.covering.specs.Lists.{_∈_, bind}
@@ -21,7 +21,7 @@ use Rattle.covering.proofs.Lengths.{count-atoms, question-count}
 use Rattle.covering.proofs.Lists.{map-same}
 use Rattle.covering.proofs.Places.{atoms-step, are-atoms, question-at}
 use Rattle.covering.proofs.Terms.{on-atom-same, terms-in, terms-append}
-use Rattle.covering.proofs.Tests.{none≢some}
+use Rattle.covering.proofs.Tests.{none≢some, not-of, cond-yes, cond-no}
 use Rattle.book.specs.declared.Parts.{Parts}
 use Rattle.unification.specs.Classes.{Pair, unify}
 use Rattle.unification.specs.Choice.{Choice, count, number, choices, left, toHead, pairing, atomPairs}
@@ -35,7 +35,7 @@ use Rattle.unify.specs.InBytes.{inBook, ruleIn, classesOf, merged}
 use Rattle.unify.specs.Table.{Table, own, tabled, unifyTable}
 use Rattle.unify.proofs.TableBytes.{merged-yes, merged-no}
 use Rattle.lister.specs.declared.Settled.{Settled}
-use Rattle.lister.specs.FirstDigits.{settled, settledOf, PrefixIs, DigitFor, DigitPut}
+use Rattle.lister.specs.FirstDigits.{unmet, surelyLeft, settled, settledOf, PrefixIs, DigitFor, DigitPut, UnmetLeft}
 use Rattle.lister.specs.Listing.{ruleOf, RuleIn, QuestionIn, LeftIn, ClassesFit, Written}
 use Rattle.lister.proofs.Answers.{heads-are, pairs-are}
 use Rattle.lister.proofs.Asked.{Tries, head-sound, child-sent, room-left, nth-sound, fits-below, apart-fit, count-few}
@@ -64,22 +64,28 @@ count-classes : (table : List ℕ) → length table ≡ length (classesOf table)
 unfolding classesOf
 count-classes table = sym (length-map table termOf)
 
+-- one atom is a part with one atom
+pub one-atom : {Q : List ℕ} {i : ℕ} → AtomIn inBook Q i → AtomsIn inBook Q i 1
+one-atom {Q} {i} a =
+    record {
+      fits = omega (arith, a .fits);
+      sound = are-atoms inBook Q i 1 (λ j l. subst (λ x. T (isAtom inBook Q x)) (at j l) (a .sound));
+    }
+  where
+    at : (j : ℕ) → j < 1 → i ≡ i + size inBook * j
+    at j l = omega arith
+
+-- the j-th atom of a question
+pub nth-in-book : {Q : List ℕ} → QuestionIn Q → {j : ℕ} → j < getD Q 0 0 → AtomIn inBook Q (1 + j * 7)
+nth-in-book {Q} q {j} l =
+    record { fits = omega (arith, q .atoms .fits); sound = nth-sound Q (getD Q 0 0) j 1 l (q .atoms .sound) }
+
 -- one digit more, as `put_digit` is asked for it
 module _ {Q B : List ℕ} {p : Parts} {i d : ℕ} {A table : List ℕ} (f : DigitFor Q B p i d A table) where
-  one-atom : AtomsIn inBook Q i 1
-  one-atom =
-      record {
-        fits = omega (arith, f .atom .fits);
-        sound = are-atoms inBook Q i 1 (λ j l. subst (λ x. T (isAtom inBook Q x)) (at j l) (f .atom .sound));
-      }
-    where
-      at : (j : ℕ) → j < 1 → i ≡ i + size inBook * j
-      at j l = omega arith
-
   pub digit-tries : Tries Q B p i 1 0 false A table d
   digit-tries = (
     record {
-      atoms = one-atom;
+      atoms = one-atom (f .atom);
       rule = f .rule;
       left = f .left-in;
       few = omega (arith, f .few);
@@ -144,6 +150,11 @@ rewriting-table k m σ L r g small =
     at : (t : Term) → In k t → on-term (tabled m) t ≡ on-term σ t
     at (var n) l = g .entry n l
     at (con c) l = refl
+
+-- what the classes of the first p digits settle
+abbrev settledBy : Rule → Question → ℕ → Choice → Sub → Option Question
+settledBy r Q p ds σ =
+    cond (leb (length (surelyLeft r Q p ds)) 8) (some (rewriting σ (surelyLeft r Q p ds) (move 48 r))) none
 
 -- the first j digits of the choice with number c: the atoms that they leave, their classes, and the number of the rest
 pub record Begun (Q B : List ℕ) (p : Parts) (c j rest : ℕ) (A table : List ℕ) : Type 0 where
@@ -256,11 +267,7 @@ module _ {Q B : List ℕ} {p : Parts} {c j rest : ℕ} {A table : List ℕ} (q :
     pub digit-for : DigitFor Q B p (1 + j * 7) (rest / each) A table
     digit-for =
         record {
-          atom =
-              record {
-                fits = omega (arith, q .atoms .fits);
-                sound = nth-sound Q (getD Q 0 0) j 1 l (q .atoms .sound);
-              };
+          atom = nth-in-book q l;
           rule = r;
           left-in = b .left-in;
           few = omega (arith, b .few, q .few);
@@ -384,9 +391,9 @@ module _ {Q B : List ℕ} {p : Parts} {c j rest : ℕ} {A table : List ℕ} (q :
       -- or it cannot be sent, and so no more digits can be
       pub begun-stops : DigitPut Q B p (1 + j * 7) (rest / each) A table false A′ table′
           → (n : ℕ) → j < n → n ≤ getD Q 0 0
-          → settled 48 (ruleOf B p) (take n (questionOf stored Q)) (take n (b .choice)) ≡ none
+          → settled 48 (ruleOf B p) (questionOf stored Q) n (b .choice) ≡ none
       begun-stops u n k most =
-          ap (λ (o : Option Sub). bind o (λ σ. some (rewriting σ (left (take n (b .choice)) (take n Q₀)) (move 48 (ruleOf B p)))))
+          ap (λ (o : Option Sub). bind o (settledBy (ruleOf B p) Q₀ n (b .choice)))
           (ap₂ (λ ds S. unify (pairing ds S H) var) (split (b .choice)) (split Q₀)
           ∙ unify-stops (take (j + 1) (b .choice)) _ (take (j + 1) Q₀) _ H as-many-more
           (more-classes ∙ stopped (unify pairs (b .classes)) held))
@@ -420,7 +427,7 @@ module _ (Q B : List ℕ) (p : Parts) (c : ℕ) where
   whole-place ds e = ap (λ h. number h ds) (heads-are B p) ∙ e
 
   pub prefix-none : (ds : Choice) → ds ∈ choices (p .heads) (getD Q 0 0) → number (p .heads) ds ≡ c → (n : ℕ)
-      → settled 48 (ruleOf B p) (take n (questionOf stored Q)) (take n ds) ≡ none
+      → settled 48 (ruleOf B p) (questionOf stored Q) n ds ≡ none
       → PrefixIs (ruleOf B p) (questionOf stored Q) c n (settledOf none)
   prefix-none ds m e n x =
       record {
@@ -431,47 +438,73 @@ module _ (Q B : List ℕ) (p : Parts) (c : ℕ) where
         fits = λ X y. absurd (none≢some (sym x ∙ y));
       }
 
-  module _ (r : RuleIn B p) {n rest : ℕ} {A table : List ℕ} (b : Begun Q B p c n rest A table) (R : List ℕ)
-      (w : Written (rewriting (tabled (classesOf table)) (questionOf stored A) (move 48 (ruleOf B p))) R)
+  -- the atoms left and those that no head atom can meet
+  module _ (r : RuleIn B p) {n rest : ℕ} {A table A′ : List ℕ} (b : Begun Q B p c n rest A table)
+      (u : UnmetLeft (ruleOf B p .head) (questionOf stored Q) n A A′)
     where
-      abbrev S : Question
-      S = rewriting (b .classes) (left (take n (b .choice)) (take n (questionOf stored Q))) (move 48 (ruleOf B p))
+      abbrev L : Question
+      L = surelyLeft (ruleOf B p) (questionOf stored Q) n (b .choice)
 
-      small-terms : (t : Term) → t ∈ terms (questionOf stored A ++ (move 48 (ruleOf B p)) .body) → In 96 t
-      unfolding ruleIn
-      small-terms t m = at (subst (λ ts. t ∈ ts) (terms-append (questionOf stored A) _) m)
+      left-are : questionOf stored A′ ≡ L
+      left-are = u .is ∙ ap (λ (X : Question). X ++ unmet (ruleOf B p .head) (drop n (questionOf stored Q))) (b .left-is)
+
+      counted : getD A′ 0 0 ≡ length L
+      counted = sym (question-count stored A′) ∙ ap length left-are
+
+      settled-by : (o : Option Question) → settledBy (ruleOf B p) (questionOf stored Q) n (b .choice) (b .classes) ≡ o
+          → settled 48 (ruleOf B p) (questionOf stored Q) n (b .choice) ≡ o
+      settled-by o e =
+          ap (λ (x : Option Sub). bind x (settledBy (ruleOf B p) (questionOf stored Q) n (b .choice))) (b .found) ∙ e
+
+      -- they are more than eight
+      pub prefix-many : 8 < getD A′ 0 0 → PrefixIs (ruleOf B p) (questionOf stored Q) c n (settledOf none)
+      prefix-many h =
+          prefix-none (b .choice) (b .among) (b .place) n
+          (settled-by none
+          (cond-no (leb (length L) 8) _ none
+          (not-of (leb (length L) 8) (λ t. let few = leb→le (length L) 8 t in absurd (omega (arith, counted))))))
+
+      module _ (few : getD A′ 0 0 ≤ 8) (R : List ℕ)
+          (w : Written (rewriting (tabled (classesOf table)) (questionOf stored A′) (move 48 (ruleOf B p))) R)
         where
-          at : t ∈ terms (questionOf stored A) ++ terms ((move 48 (ruleOf B p)) .body) → In 96 t
-          at i = each (List·Memᴰ·append-cases (terms (questionOf stored A)) i)
+          abbrev S : Question
+          S = rewriting (b .classes) L (move 48 (ruleOf B p))
+
+          small-terms : (t : Term) → t ∈ terms (questionOf stored A′ ++ (move 48 (ruleOf B p)) .body) → In 96 t
+          unfolding ruleIn
+          small-terms t m = at (subst (λ ts. t ∈ ts) (terms-append (questionOf stored A′) _) m)
             where
-              each : (t ∈ terms (questionOf stored A)) ⊎ (t ∈ terms ((move 48 (ruleOf B p)) .body)) → In 96 t
-              each (inl x) =
-                  below-in 96 (questionOf stored A)
-                  (λ v y. let k = fits-below _ (left-each A (b .left-in)) v y in omega arith) t x
-              each (inr x) =
-                  below-in 96 ((move 48 (ruleOf B p)) .body)
-                  (moved-below 48 48 (ruleOf B p .body) (fits-below _ (all-fit B (p .body) (p .bodies) (r .body)))) t x
+              at : t ∈ terms (questionOf stored A′) ++ terms ((move 48 (ruleOf B p)) .body) → In 96 t
+              at i = each (List·Memᴰ·append-cases (terms (questionOf stored A′)) i)
+                where
+                  each : (t ∈ terms (questionOf stored A′)) ⊎ (t ∈ terms ((move 48 (ruleOf B p)) .body)) → In 96 t
+                  each (inl x) =
+                      below-in 96 (questionOf stored A′)
+                      (λ v y. let k = fits-below _ (left-each A′ (u .left-in)) v y in omega arith) t x
+                  each (inr x) =
+                      below-in 96 ((move 48 (ruleOf B p)) .body)
+                      (moved-below 48 48 (ruleOf B p .body) (fits-below _ (all-fit B (p .body) (p .bodies) (r .body)))) t x
 
-      same : rewriting (tabled (classesOf table)) (questionOf stored A) (move 48 (ruleOf B p)) ≡ S
-      same =
-          rewriting-table 96 (classesOf table) (b .classes) (questionOf stored A) (move 48 (ruleOf B p)) (b .agree) small-terms
-          ∙ ap (λ L. rewriting (b .classes) L (move 48 (ruleOf B p))) (b .left-is)
+          same : rewriting (tabled (classesOf table)) (questionOf stored A′) (move 48 (ruleOf B p)) ≡ S
+          same =
+              rewriting-table 96 (classesOf table) (b .classes) (questionOf stored A′) (move 48 (ruleOf B p)) (b .agree) small-terms
+              ∙ ap (λ X. rewriting (b .classes) X (move 48 (ruleOf B p))) left-are
 
-      settled-is : settled 48 (ruleOf B p) (take n (questionOf stored Q)) (take n (b .choice)) ≡ some S
-      settled-is =
-          ap (λ (o : Option Sub). bind o (λ σ. some (rewriting σ (left (take n (b .choice)) (take n (questionOf stored Q))) (move 48 (ruleOf B p)))))
-          (b .found)
+          settled-is : settled 48 (ruleOf B p) (questionOf stored Q) n (b .choice) ≡ some S
+          settled-is =
+              settled-by (some S)
+              (cond-yes (leb (length L) 8) (some S) none (le→leb (length L) 8 (omega (arith, counted))))
 
-      pub prefix-some : PrefixIs (ruleOf B p) (questionOf stored Q) c n (record { met = true; rewriting = R })
-      prefix-some =
-          record {
-            choice = b .choice;
-            among = whole-choice (b .choice) (b .among);
-            place = whole-place (b .choice) (b .place);
-            is =
-                ap (λ (x : List ℕ). record { met = true; rewriting = x })
-                (w .bytes ∙ ap (heldIn stored recordRoom) same)
-                ∙ ap settledOf (sym settled-is);
-            fits = λ X y.
-                subst (Fits stored) (same ∙ Option·some-injective S X (sym settled-is ∙ y)) (w .fits);
-          }
+          pub prefix-some : PrefixIs (ruleOf B p) (questionOf stored Q) c n (record { met = true; rewriting = R })
+          prefix-some =
+              record {
+                choice = b .choice;
+                among = whole-choice (b .choice) (b .among);
+                place = whole-place (b .choice) (b .place);
+                is =
+                    ap (λ (x : List ℕ). record { met = true; rewriting = x })
+                    (w .bytes ∙ ap (heldIn stored recordRoom) same)
+                    ∙ ap settledOf (sym settled-is);
+                fits = λ X y.
+                    subst (Fits stored) (same ∙ Option·some-injective S X (sym settled-is ∙ y)) (w .fits);
+              }

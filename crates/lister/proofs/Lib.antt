@@ -15,6 +15,7 @@ pub mod Asked
 pub mod Pruned
 pub mod Answers
 pub mod FirstDigits
+pub mod Unmet
 -- a sound book gives what the lister asks for; any two results of a contract are equal
 pub mod FromBook
 pub mod Determined

@@ -9,13 +9,17 @@ use forming::put_atom;
 use unify::all_apart;
 use unify::join_atoms;
 ghost use mathlib.Core.Path.{_≡_};
+ghost use mathlib.Core.Bool.{not};
+ghost use mathlib.Core.Option.{none};
 ghost use Prim.Native.Nat.{_+_, _*_, _-_, _/_, _≤_, _<_};
+ghost use lib.Dec.{eqb};
 ghost use lib.ListN.{length, getD};
+ghost use Rattle.covering.specs.Lists.{any};
 ghost use Rattle.covering.specs.Record.{stored, questionOf};
 ghost use Rattle.unification.specs.Choice.{count};
 ghost use Rattle.lister.specs.Counts.{mostChoices};
-ghost use Rattle.lister.specs.Listing.{ruleOf, RuleIn, QuestionIn};
-ghost use Rattle.lister.specs.FirstDigits.{PrefixIs, DigitFor, DigitPut};
+ghost use Rattle.lister.specs.Listing.{ruleOf, RuleIn, QuestionIn, LeftIn};
+ghost use Rattle.lister.specs.FirstDigits.{settledOf, PrefixIs, DigitFor, DigitPut, UnmetLeft};
 
 // Gives the question atom at i its digit: leaves it, or puts it on that head atom in the classes. Whether it can be put
 // there; what the classes are after a no does not count.
@@ -49,8 +53,60 @@ fn put_digit(
     join_atoms(question, book, i, head + (d - 1) * 7, table)
 }
 
-// What the first p digits of a choice settle: the atoms that they leave and then the body, each class of theirs replaced
-// by what stands for it. It is not in form: covering needs none.
+// Whether no atom of the rule's head has the relation.
+fn is_unmet(book: &[u8], rule: Parts, relation: u8) -> bool
+    requires { ⌜ rule .head + rule .heads * 7 ≤ length (now book) ⌝ }
+    ensures { λ r. ⌜ r ≡ not (any (λ b. eqb relation (b .rel)) (ruleOf (now (book .entry)) rule .head)) ⌝ }
+{
+    let mut at = rule.head;
+    let mut more = rule.heads;
+    while 0 < more {
+        if book[at] == relation {
+            return false;
+        }
+        at += 7;
+        more -= 1;
+    }
+    true
+}
+
+// Leaves those of the atoms after the first p that no head atom can meet: every choice that is valid leaves them.
+fn leave_unmet(question: &[u8], book: &[u8], rule: Parts, p: usize, left: &mut [u8])
+    requires { ⌜ QuestionIn (now question)
+        × RuleIn (now book) rule
+        × LeftIn (now left)
+        × (getD (now left) 0 0 ≤ p)
+        × (p ≤ getD (now question) 0 0) ⌝ }
+    ensures { λ _. ⌜ UnmetLeft
+        (ruleOf (now (book .entry)) rule .head)
+        (questionOf stored (now (question .entry)))
+        p
+        (now (left .entry))
+        (now (left .exit)) ⌝ }
+{
+    let n = question[0] as usize;
+    let mut j = p;
+    while j < n {
+        let at = 1 + j * 7;
+        if is_unmet(book, rule, question[at]) {
+            put_atom(left, question, at);
+        }
+        j += 1;
+    }
+}
+
+// That nothing is settled.
+fn unsettled() -> Settled
+    ensures { λ r. ⌜ r ≡ settledOf none ⌝ }
+{
+    Settled {
+        met: false,
+        rewriting: [255u8; RECORD],
+    }
+}
+
+// What the first p digits of a choice settle: the atoms that they leave, those after them that no head atom can meet, and
+// then the body, each class of the digits replaced by what stands for it. It is not in form: covering needs none.
 pub fn prefix_rewriting(
     question: &[u8],
     book: &[u8],
@@ -79,13 +135,14 @@ pub fn prefix_rewriting(
         let each = choice_count(heads, n - 1 - j);
         let d = rest / each;
         if !put_digit(question, book, rule, 1 + j * 7, d, &mut left, &mut table) {
-            return Settled {
-                met: false,
-                rewriting: [255u8; RECORD],
-            };
+            return unsettled();
         }
         rest = rest % each;
         j += 1;
+    }
+    leave_unmet(question, book, rule, p, &mut left);
+    if 8 < left[0] {
+        return unsettled();
     }
     Settled {
         met: true,

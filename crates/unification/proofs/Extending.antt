@@ -1,6 +1,7 @@
 -- Choices that go on from a prefix: the digits ds for the atoms Q, then es for the atoms Q′. Going on only leaves more
 -- atoms and coarsens the classes, so a question that covers the prefix's left atoms and the body, under the prefix's
--- classes, covers the rewriting of every valid choice that goes on from it (`extension-covered`). Assumes nothing.
+-- classes, covers the rewriting of every valid choice that goes on from it (`extension-covered`); other atoms that such a
+-- choice is known to leave may stand with them. Assumes nothing.
 use mathlib.Core.Path.{_≡_, refl, sym, _∙_, ap, subst}
 use mathlib.Core.Logic.{_⊎_, inl, inr}
 use mathlib.Core.List.{List, [], _∷_, _++_, append-assoc, List·Memᴰ·append-cases}
@@ -115,9 +116,18 @@ module _ (k : ℕ) (r : Rule) (Q Q′ : Question) (ds : Choice) (σ : Sub)
         (sym (ap (λ (cs : Choice). left cs (Q ++ Q′)) extends ∙ left-extends ds es Q Q′ whole))
         (Memᴰ·append-left (left es Q′) m)
 
-    pub extension-covered : (M : Question) → Covers M (rewriting σ (left ds Q) (move k r)) → Covers M P
-    extension-covered M c =
+    -- X are other atoms that it leaves
+    pub extension-covered : (X : Question) → ((a : Atom) → a ∈ X → a ∈ left (w .choice) (Q ++ Q′)) → (M : Question)
+        → Covers M (rewriting σ (left ds Q ++ X) (move k r)) → Covers M P
+    extension-covered X others M c =
         subst (Covers M) (w .is)
         (covers-trans c
-        (covers-trans (coarser-covered (move k r) coarser (left ds Q) (left (w .choice) (Q ++ Q′)) stays-left)
+        (covers-trans (coarser-covered (move k r) coarser (left ds Q ++ X) (left (w .choice) (Q ++ Q′)) both-left)
         (form-equivalent (rewriting (w .classes) (left (w .choice) (Q ++ Q′)) (move k r)) .0)))
+      where
+        both-left : (a : Atom) → a ∈ left ds Q ++ X → a ∈ left (w .choice) (Q ++ Q′)
+        both-left a m = go (List·Memᴰ·append-cases (left ds Q) m)
+          where
+            go : (a ∈ left ds Q) ⊎ (a ∈ X) → a ∈ left (w .choice) (Q ++ Q′)
+            go (inl n) = stays-left a n
+            go (inr n) = others a n

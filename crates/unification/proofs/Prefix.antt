@@ -1,6 +1,7 @@
 -- The choices that have their first p digits in common: their numbers are those from w(h + 1)^m to below (w + 1)(h + 1)^m,
--- where w is the number of the p digits and m digits follow. So what covers the left atoms of the p digits and the body,
--- under their classes, covers every rewriting that is listed with such a number (`prefix-covered`). Assumes nothing.
+-- where w is the number of the p digits and m digits follow. So what covers the left atoms of the p digits, atoms after
+-- them that no head atom can meet, and the body, under their classes, covers every rewriting that is listed with such a
+-- number (`prefix-covered`). Assumes nothing.
 use mathlib.Core.Path.{_≡_, refl, sym, _∙_, ap, ap₂, subst}
 use mathlib.Core.List.{List, [], _∷_, _++_, map, List·Memᴰ·head, Memᴰ·of-map}
 use mathlib.Core.Option.{some, Option·some-injective}
@@ -11,7 +12,7 @@ use lib.ListN.{length, length-append, getElem?, take, drop, take-append-drop}
 use lib.Seq.{length-take-le}
 use Rattle.covering.specs.Covers.{Covers}
 use Rattle.covering.specs.Lists.{_∈_, numbers}
-use Rattle.covering.specs.Term.{Question, Sub, var}
+use Rattle.covering.specs.Term.{Atom, Question, Sub, var}
 use Rattle.covering.specs.Rule.{Rule}
 use Rattle.covering.proofs.Lists.{numbers-below}
 use Rattle.unification.specs.Classes.{unify}
@@ -21,6 +22,7 @@ use Rattle.unification.proofs.Choices.{choices-in}
 use Rattle.unification.proofs.Collected.{gather-out, numbers-in}
 use Rattle.unification.proofs.Extending.{extension-covered}
 use Rattle.unification.proofs.Listed.{listed-out}
+use Rattle.unification.proofs.Unrelated.{Unrelated, unmet-left}
 use Rattle.unification.proofs.Numbers.{count-suc, choice-length, choices-numbers, choice-number, number-below}
 
 -- there is at least one choice
@@ -134,11 +136,12 @@ number-taken h m p cs among =
     let more = add-mul (number h (take p cs)) 1 (count h m) in
     sym (div-eq-of-lt-le (count h m) (omega arith) (omega arith))
 
--- what covers the left atoms of the first p digits of the choice cs and the body, under their classes
+-- what covers the left atoms of the first p digits of the choice cs, unmet atoms X and the body, under their classes
 module _ (k : ℕ) (r : Rule) (Q : Question) (p m : ℕ) (whole : length Q ≡ p + m) (cs : Choice)
     (among : cs ∈ choices (length (r .head)) (length Q)) (σ : Sub)
     (found : unify (pairing (take p cs) (take p Q) ((move k r) .head)) var ≡ some σ)
-    (M : Question) (c : Covers M (rewriting σ (left (take p cs) (take p Q)) (move k r)))
+    (X : Question) (unmet : (a : Atom) → a ∈ X → (a ∈ Q) × Unrelated (a ∷ []) (r .head))
+    (M : Question) (c : Covers M (rewriting σ (left (take p cs) (take p Q) ++ X) (move k r)))
   where
     abbrev h : ℕ
     h = length (r .head)
@@ -171,6 +174,10 @@ module _ (k : ℕ) (r : Rule) (Q : Question) (p m : ℕ) (whole : length Q ≡ p
         ∙ ap (λ (es : Choice). es ++ drop p (w .choice))
         (begins (w .choice) (subst (λ (A : Question). w .choice ∈ choices h (length A)) split (w .among))
         (ap (λ (x : ℕ). x / each) (w .place) ∙ div-eq-of-lt-le each low high)))
+        X
+        (λ a x.
+        let u = unmet a x in
+        unmet-left k r (take p Q ++ drop p Q) w a (subst (λ (A : Question). a ∈ A) (sym split) (u .0)) (u .1))
         M c
       where
         split : take p Q ++ drop p Q ≡ Q

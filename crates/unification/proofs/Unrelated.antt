@@ -1,5 +1,6 @@
 -- A rule is tried only where it can be: if no atom of the question has the relation of a head atom, no choice is valid, and
--- nothing is listed. Assumes nothing.
+-- nothing is listed (`none-listed`). An atom that has the relation of none is left by every valid choice (`unmet-left`).
+-- Assumes nothing.
 use mathlib.Core.Path.{_≡_, refl, sym, _∙_, ap, subst}
 use mathlib.Core.List.{List, [], _∷_, _++_, map, List·Memᴰ·head, List·Memᴰ·tail, List·Memᴰ·not-nil, Memᴰ·of-map}
 use mathlib.Core.List.{Memᴰ·append-left, Memᴰ·append-right}
@@ -18,6 +19,7 @@ use Rattle.unification.specs.Choice.{Choice, number, choices, someSent, 
 use Rattle.unification.specs.Step.{up, move, judge, step, label, from, listed, next}
 use Rattle.unification.proofs.Classes.{unify-sound}
 use Rattle.unification.proofs.Collected.{gather-out}
+use Rattle.unification.proofs.Listed.{Made}
 use Rattle.unification.proofs.Pairs.{head-of}
 
 -- no atom of the one has the relation of an atom of the other
@@ -42,6 +44,22 @@ sent-related s H (zero ∷ ds) (a ∷ Q) e t h =
 sent-related s H (suc d ∷ ds) (a ∷ Q) e t h =
     let b = head-of s H d a (λ p m. h p (Memᴰ·append-left (pairing ds Q H) m)) in
     (a, b .0, List·Memᴰ·head refl, b .1, con-inj (b .2 (con (a .rel), con (b .0 .rel)) (List·Memᴰ·head refl)))
+
+-- an atom with the relation of none is left
+unsent-left : (s : Sub) (H : Question) (ds : Choice) (Q : Question) → length ds ≡ length Q
+    → HoldsPairs (Kernel s) (pairing ds Q H) → (a : Atom) → a ∈ Q → Unrelated (a ∷ []) H → a ∈ left ds Q
+unsent-left s H ds [] e h a m f = absurd (List·Memᴰ·not-nil m)
+unsent-left s H [] (b ∷ Q) e h a m f = absurd (omega arith)
+unsent-left s H (zero ∷ ds) (b ∷ Q) e h a (List·Memᴰ·head i) f = List·Memᴰ·head i
+unsent-left s H (zero ∷ ds) (b ∷ Q) e h a (List·Memᴰ·tail m) f =
+    List·Memᴰ·tail (unsent-left s H ds Q (omega arith) h a m f)
+unsent-left s H (suc d ∷ ds) (b ∷ Q) e h a (List·Memᴰ·head i) f =
+    let c = head-of s H d b (λ p n. h p (Memᴰ·append-left (pairing ds Q H) n)) in
+    absurd
+    (f a (c .0) (List·Memᴰ·head refl) (c .1)
+    (ap (λ (x : Atom). x .rel) i ∙ con-inj (c .2 (con (b .rel), con (c .0 .rel)) (List·Memᴰ·head refl))))
+unsent-left s H (suc d ∷ ds) (b ∷ Q) e h a (List·Memᴰ·tail m) f =
+    unsent-left s H ds Q (omega arith) (λ p n. h p (Memᴰ·append-right (toHead H d b) n)) a m f
 
 -- moving a rule's variables keeps its relations
 moved-unrelated : (k : ℕ) (r : Rule) (Q : Question) → Unrelated Q (r .head) → Unrelated Q ((move k r) .head)
@@ -84,3 +102,10 @@ module _ (k : ℕ) (r : Rule) (Q : Question) (f : Unrelated Q (r .head)) where
   pub none-next : (n : ℕ) → next k r Q n ≡ none
   unfolding next
   none-next n = ap (λ (l : List (ℕ × Question)). head (from n l)) none-listed
+
+pub unmet-left : (k : ℕ) (r : Rule) (Q : Question) {n : ℕ} {P : Question} (w : Made k r Q n P) (a : Atom) → a ∈ Q
+    → Unrelated (a ∷ []) (r .head) → a ∈ left (w .choice) Q
+unmet-left k r Q w a m f =
+    unsent-left (w .classes) ((move k r) .head) (w .choice) Q (choice-long (length (r .head)) (length Q) (w .choice) (w .among))
+    (unify-sound (pairing (w .choice) Q ((move k r) .head)) var (w .classes) (w .found) .holds) a m
+    (moved-unrelated k r (a ∷ []) f)

@@ -4,7 +4,8 @@
 use borrow.Author.Needs.{needs}
 use native.Mathlib.Omega.{arith}
 use mathlib.Core.Path.{_≡_, refl, sym, ap, _∙_, subst}
-use mathlib.Core.Bool.{Bool, true, false}
+use mathlib.Core.Bool.{Bool}
+use mathlib.Core.List.{List}
 use Prim.Native.Nat.{ℕ, _+_, _*_, _-_, _/_, _≤_, _<_}
 use lib.ListN.{length, getD}
 use Rattle.covering.specs.Record.{stored, questionOf}
@@ -13,7 +14,7 @@ use Rattle.unification.specs.Choice.{count}
 use Rattle.unification.proofs.Prefix.{count-some}
 use Rattle.lister.specs.FirstDigits.{DigitPut, PrefixIs}
 use Rattle.lister.specs.Listing.{ruleOf}
-use Rattle.lister.proofs.FirstDigits.{Begun, begun-first, begun-next, begun-stops, digit-for, prefix-none, prefix-some}
+use Rattle.lister.proofs.FirstDigits.{Begun, begun-first, begun-next, begun-stops, digit-for, prefix-none, prefix-many, prefix-some}
 use Rattle.lister.proofs.prefix.prefix_rewriting.Statement.{statement}
 use Rattle.lister.proofs.prefix.prefix_rewriting.Tie as tie
 
@@ -101,15 +102,19 @@ put-digit-requires c κs =
     let b = start l in
     digit-for (b .pre .0) (b .pre .1) (l .loop .inv .3) (omega (arith, b .pre .2, n .before .loop-test .taken)) (n .choice-count .ensures)
 
+unsettled-requires : tie.Need-unsettled-requires Inv-loop μ-loop
+unsettled-requires c κs = search needs
+
 returns : tie.Need-returns Inv-loop μ-loop
 returns c =
-    let x = c .before .before .before in
+    let x = c .before .before .before .before in
     let l = turn x in
     let b = start l in
     let now = l .loop .inv .3 in
-    let put = subst (Put x) (not-true _ (c .if1 .taken)) (x .put-digit .ensures) in
-    prefix-none _ _ _ _ (now .choice) (now .among) (now .place) (b .args .p)
-    (begun-stops (b .pre .0) (b .pre .1) now (goes-on x) (counted x) put (b .args .p) (omega arith) (omega (arith, b .pre .2)))
+    let put = subst (Put x) (not-true _ (c .before .if1 .taken)) (x .put-digit .ensures) in
+    subst (PrefixIs _ _ _ _) (sym (c .unsettled .ensures))
+    (prefix-none _ _ _ _ (now .choice) (now .among) (now .place) (b .args .p)
+    (begun-stops (b .pre .0) (b .pre .1) now (goes-on x) (counted x) put (b .args .p) (omega arith) (omega (arith, b .pre .2))))
 
 rem-rest : tie.Need-rem-rest Inv-loop μ-loop
 rem-rest c =
@@ -136,24 +141,71 @@ loop-again c =
       begun-next (b .pre .0) (b .pre .1) (l .loop .inv .3) (goes-on x) (counted x) put,
     )
 
-replaced-requires : tie.Need-replaced-requires Inv-loop μ-loop
-replaced-requires c κs =
-    let l = c .before .before .before in
+-- the digits are all put, and the atoms that no head atom can meet are left
+slice-aggregate-leave-unmet : tie.Need-slice-aggregate-leave-unmet Inv-loop μ-loop
+slice-aggregate-leave-unmet c = sym (c .before .before .loop .inv .1)
+
+leave-unmet-requires : tie.Need-leave-unmet-requires Inv-loop μ-loop
+leave-unmet-requires c κs =
+    let l = c .before .before in
     let b = start l in
     let now = l .loop .inv .3 in
-    (now .left-in, omega (arith, now .few, b .pre .0 .few, b .pre .2), b .pre .1, now .fit)
+    (b .pre .0, b .pre .1, now .left-in, omega (arith, now .few, l .loop .inv .0), omega (arith, b .pre .2))
+
+-- where the loop ended, and the atoms left after it
+abbrev end : tie.After-leave-unmet Inv-loop μ-loop → tie.At-loop Inv-loop μ-loop
+end x = x .before .before .before
+
+abbrev left-now : tie.After-leave-unmet Inv-loop μ-loop → List ℕ
+left-now x = x .leave-unmet .last .1 .1 .1 .1 .0
+
+long : (x : tie.After-leave-unmet Inv-loop μ-loop) → length (left-now x) ≡ 85
+long x = x .leave-unmet .kept .1 .1 .1 .1 .0 ∙ end x .loop .inv .1
+
+-- all p digits are put
+begun : (x : tie.After-leave-unmet Inv-loop μ-loop)
+    → let l = end x in
+    let b = start l in
+    Begun (b .args .question .now) (b .args .book .now) (b .args .rule) (b .args .choice) (b .args .p) (l .loop .rest)
+    (l .loop .left) (l .loop .table)
+begun x =
+    let l = end x in
+    let b = start l in
+    let all : l .loop .j ≡ b .args .p = omega (arith, l .loop .inv .0, x .before .before .loop-test .left) in
+    subst
+    (λ n.
+    Begun (b .args .question .now) (b .args .book .now) (b .args .rule) (b .args .choice) n (l .loop .rest)
+    (l .loop .left) (l .loop .table))
+    all (l .loop .inv .3)
+
+array-read-if2 : tie.Need-array-read-if2 Inv-loop μ-loop
+array-read-if2 c = omega (arith, long (c .before))
+
+unsettled-requires-2 : tie.Need-unsettled-requires-2 Inv-loop μ-loop
+unsettled-requires-2 c κs = search needs
 
 returns-2 : tie.Need-returns-2 Inv-loop μ-loop
 returns-2 c =
-    let l = c .before .before .before .before in
-    let b = start l in
-    let all : l .loop .j ≡ b .args .p = omega arith in
-    subst
-    (λ n.
-    PrefixIs (ruleOf (b .args .book .now) (b .args .rule)) (questionOf stored (b .args .question .now)) (b .args .choice) n
-    (record { met = true; rewriting = c .replaced .result }))
-    all
-    (prefix-some _ _ _ _ (b .pre .1) (l .loop .inv .3) (c .replaced .result) (c .replaced .ensures))
+    let x = c .before .before .before in
+    subst (PrefixIs _ _ _ _) (sym (c .unsettled2 .ensures))
+    (prefix-many _ _ _ _ (start (end x) .pre .1) (begun x) (x .leave-unmet .ensures) (c .before .if2 .taken))
+
+replaced-requires : tie.Need-replaced-requires Inv-loop μ-loop
+replaced-requires c κs =
+    let x = c .before .before .before .before in
+    let l = end x in (
+      x .leave-unmet .ensures .left-in,
+      omega (arith, c .before .before .if2 .left),
+      start l .pre .1,
+      l .loop .inv .3 .fit,
+    )
+
+returns-3 : tie.Need-returns-3 Inv-loop μ-loop
+returns-3 c =
+    let t = c .before .before .before in
+    let x = t .before .before in
+    prefix-some _ _ _ _ (start (end x) .pre .1) (begun x) (x .leave-unmet .ensures) (omega (arith, t .if2 .left))
+    (c .replaced .result) (c .replaced .ensures)
 
 pub prefix-rewriting-spec : {M : Type 1} → statement M
 prefix-rewriting-spec =
@@ -175,10 +227,16 @@ prefix-rewriting-spec =
     slice-aggregate-put-digit
     slice-aggregate-put-digit-2
     put-digit-requires
+    unsettled-requires
     returns
     rem-rest
     add-j
     loop-less
     loop-again
+    slice-aggregate-leave-unmet
+    leave-unmet-requires
+    array-read-if2
+    unsettled-requires-2
+    returns-2
     replaced-requires
-    returns-2)
+    returns-3)
