@@ -13,6 +13,7 @@ pub mod RewritingBytes
 pub mod LeftAtoms
 pub mod Asked
 pub mod Pruned
+pub mod Stuck
 pub mod Answers
 pub mod FirstDigits
 pub mod Unmet

@@ -7,5 +7,6 @@ pub mod Joins
 -- the code's tests of terms, and of validity
 pub mod EachTerm
 pub mod ValidTests
+pub mod StuckBytes
 -- what each contract determines
 pub mod Determined
