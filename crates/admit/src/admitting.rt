@@ -9,6 +9,7 @@ use super::removing::remove_covered;
 use super::searching::member_covering;
 use super::working::append;
 use cover::VARIABLES;
+use covering::RECORD;
 
 // "More than 8 atoms", "a 65th member".
 const ATOMS: u8 = 8;
@@ -17,7 +18,7 @@ const ROOM: usize = 64;
 
 // Drops the rewriting if a member covers it; else refuses with 8 where it has more than `answers` answer records and 8
 // atoms, removes what it covers, refuses with 9, or appends it.
-pub fn admit(work: &mut [u8], filled: Extent, rewriting: &[u8], answers: u8) -> Fate
+pub fn admit(work: &mut [u8], filled: Extent, rewriting: &[u8; RECORD], answers: u8) -> Fate
     requires { ⌜ Working (now work) filled × SoundRecord stored (now rewriting) × (answers ≤ 1) ⌝ }
     ensures { λ r. ⌜ FateIs
         (limitsFor answers)

@@ -8,10 +8,17 @@ use super::Extent;
 use super::FIRST;
 use super::Moved;
 use super::working::move_down;
+use covering::RECORD;
 
 // Keeps those of the n members from `from` on that the rewriting does not cover, one after the other from `to` on.
 // Each is moved down at most once, however many are removed.
-fn keep_uncovered(work: &mut [u8], from: usize, to: usize, n: usize, rewriting: &[u8]) -> Moved
+fn keep_uncovered(
+    work: &mut [u8],
+    from: usize,
+    to: usize,
+    n: usize,
+    rewriting: &[u8; RECORD],
+) -> Moved
     requires { ⌜ (to ≤ from) × (n ≤ 64) × Standing (now work) from n × SoundRecord stored (now rewriting) ⌝ }
     ensures { λ r. ⌜ Remain
         (now (work .entry)) from to n
@@ -40,7 +47,7 @@ fn keep_uncovered(work: &mut [u8], from: usize, to: usize, n: usize, rewriting: 
 }
 
 // Removes every member that the rewriting covers; the explored ones that stay are in front again.
-pub fn remove_covered(work: &mut [u8], filled: Extent, rewriting: &[u8]) -> Extent
+pub fn remove_covered(work: &mut [u8], filled: Extent, rewriting: &[u8; RECORD]) -> Extent
     requires { ⌜ Working (now work) filled × SoundRecord stored (now rewriting) ⌝ }
     ensures { λ r. ⌜ Working (now (work .exit)) r
         × (stateIn (now (work .exit)) r

@@ -14,6 +14,7 @@ ghost use Rattle.admit.specs.WorkingArray.{beforeCovering, coveredBy};
 ghost use Rattle.exploration.specs.Held.{Standing};
 use super::FIRST;
 use cover::VARIABLES;
+use covering::RECORD;
 
 // Which of the w candidates for a member's first atom to begin with: the first, or, where a relation of the member does
 // not stand in the rewriting, so that it covers nothing there, the one after the last.
@@ -30,7 +31,12 @@ fn first_asked(member: &[u8], there: u64, w: usize) -> usize
 // The number of the first of the count members that covers the rewriting, count where none does. One candidate for the
 // member's first atom is asked at a time, so that the search ends at the first that serves, and the map that it found is
 // handed up beside the number. Of a member with a relation that does not stand in the rewriting none is asked.
-pub fn member_covering(work: &[u8], count: usize, rewriting: &[u8], map: &mut [u8]) -> usize
+pub fn member_covering(
+    work: &[u8],
+    count: usize,
+    rewriting: &[u8; RECORD],
+    map: &mut [u8; VARIABLES],
+) -> usize
     requires { ⌜ (count ≤ 64)
         × Standing (now work) firstAt count
         × SoundRecord stored (now rewriting)
@@ -74,7 +80,7 @@ pub fn member_covering(work: &[u8], count: usize, rewriting: &[u8], map: &mut [u
 }
 
 // Whether one of the count members covers the question.
-pub fn is_covered(work: &[u8], count: usize, question: &[u8]) -> bool
+pub fn is_covered(work: &[u8], count: usize, question: &[u8; RECORD]) -> bool
     requires { ⌜ (count ≤ 64) × Standing (now work) firstAt count × SoundRecord stored (now question) ⌝ }
     ensures { λ r. ⌜ r
         ≡ covered covers

@@ -125,4 +125,5 @@ search-ends a A B C b came m gone o n e f s met g =
           ∙ gives-up a A B C (partOf came) b (ap (λ x. isSome (placeAtom (partOf x) a b)) (sym e) ∙ met two) failed
           (ap (λ x. leadsOn (partOf x) a A) (sym back) ∙ alone));
       back = λ t. back;
+      long = ap length back;
     }

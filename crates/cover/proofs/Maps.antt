@@ -146,10 +146,9 @@ map-held m k e =
     (λ j lt. ap (λ v. goesByte (partOf m v)) (omega arith) ∙ goes-back m j lt))
 
 -- what a search from nowhere leaves
-pub searched-map : (o : Option Part) (m : List ℕ) (r : Bool) → length m ≡ 96 → Searched o (replicate 96 255) m r
-    → m ≡ mapOr 96 o
-searched-map o m true l s = sym (map-held m 96 l) ∙ ap (mapOr 96) (s .finds)
-searched-map o m false l s = s .back refl ∙ ap (mapOr 96) (s .finds)
+pub searched-map : (o : Option Part) (m : List ℕ) (r : Bool) → Searched o (replicate 96 255) m r → m ≡ mapOr 96 o
+searched-map o m true s = sym (map-held m 96 (s .long)) ∙ ap (mapOr 96) (s .finds)
+searched-map o m false s = s .back refl ∙ ap (mapOr 96) (s .finds)
 
 -- of which the desk gives the first bytes
 pub front-map : (o : Option Part) → take mapSize (mapOr 96 o) ≡ mapOr mapSize o

@@ -5,7 +5,7 @@ use mathlib.Core.Bool.{Bool, true, false, true≢false}
 use mathlib.Core.List.{List}
 use mathlib.Core.Option.{Option, none, some}
 use Prim.Native.Nat.{ℕ, _+_, _-_, _<_}
-use lib.ListN.{getD}
+use lib.ListN.{length, getD}
 use Rattle.covering.specs.Lists.{isSome}
 use Rattle.covering.specs.Term.{Atom, Question}
 use Rattle.covering.specs.Search.{Part, placeAtom, findMap}
@@ -75,16 +75,16 @@ on-candidate L F S k p h = rw (atoms-more L F 1 (getD F 0 0) h)
 
 -- a search's answer: a yes, a no
 module _ (o : Option Part) (came : List ℕ) where
-  pub found : (left : List ℕ) → some (partOf left) ≡ o → Searched o came left true
-  found left e = record { finds = e; back = λ t. absurd (true≢false t) }
+  pub found : (left : List ℕ) → length left ≡ length came → some (partOf left) ≡ o → Searched o came left true
+  found left l e = record { finds = e; back = λ t. absurd (true≢false t); long = l }
 
   pub not-found : o ≡ none → Searched o came came false
-  not-found e = record { finds = sym e; back = λ t. refl }
+  not-found e = record { finds = sym e; back = λ t. refl; long = refl }
 
   -- the same of another search that finds the same
   pub searched-as : (o′ : Option Part) (left : List ℕ) (r : Bool) → o ≡ o′ → Searched o came left r
       → Searched o′ came left r
-  searched-as o′ left r e s = record { finds = s .finds ∙ e; back = s .back }
+  searched-as o′ left r e s = record { finds = s .finds ∙ e; back = s .back; long = s .long }
 
 -- one candidate tried, from the map m that is as it came: it serves, or it does not and the next one is tried
 module _ (L : Layout) (a : Atom) (A B : Question) (S : List ℕ) (k more : ℕ) (came m : List ℕ) (o : Option Part)
@@ -94,7 +94,7 @@ module _ (L : Layout) (a : Atom) (A B : Question) (S : List ℕ) (k more : ℕ) 
     says b q = ap (λ x. placedOn a A B (partOf x) (atomAt L S k)) (sym e) ∙ sym (s .finds) ∙ ap (λ x. said x left) q
 
     pub one-serves : r ≡ true → Searched o came left true
-    one-serves q = found o came left (sym (f ∙ tried-hit L a A B S k more (partOf came) lt (says true q)))
+    one-serves q = found o came left (s .long ∙ ap length e) (sym (f ∙ tried-hit L a A B S k more (partOf came) lt (says true q)))
 
     pub one-fails : r ≡ false
         → (left ≡ came) × (o ≡ tried a A B (atomsAt L S (k + size L) (more - 1)) (partOf came))

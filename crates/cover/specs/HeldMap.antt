@@ -43,3 +43,4 @@ said false m = none
 pub record Searched (o : Option Part) (came left : List ℕ) (r : Bool) : Type 0 where
   pub finds : said r left ≡ o
   pub back : r ≡ false → left ≡ came
+  pub long : length left ≡ length came

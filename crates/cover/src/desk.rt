@@ -17,7 +17,7 @@ ghost use Rattle.cover.specs.HeldMap.{Searched};
 
 // Whether the first record covers the second, with the first map. If only one has an answer record, it does not; else
 // that record is an atom as the others are. Both are widened first, so that the search knows of one width.
-fn covers_record(first: &[u8], second: &[u8], w: usize, map: &mut [u8]) -> bool
+fn covers_record(first: &[u8], second: &[u8], w: usize, map: &mut [u8; VARIABLES]) -> bool
     requires { ⌜ T (isDeskRecord w (now first))
         × T (isDeskRecord w (now second))
         × (now map ≡ replicate (stored .variables) 255) ⌝ }
@@ -33,8 +33,7 @@ fn covers_record(first: &[u8], second: &[u8], w: usize, map: &mut [u8]) -> bool
     let one = widened(first, w);
     let two = widened(second, w);
     let n = one[0] as usize;
-    let m = two[0] as usize;
-    place_next(&one, &two, map, 1, n, m)
+    place_next(&one, &two, map, 1, n)
 }
 
 // The first bytes of a map, those of the variables that a record may have at the desk.

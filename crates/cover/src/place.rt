@@ -1,21 +1,32 @@
 // Placing one atom of the first question on one atom of the second, under the map so far, and taking it back. The map
 // has a byte for each variable, 255 where it goes nowhere yet. A candidate is tested before a byte is written.
+use crate::VARIABLES;
+use covering::RECORD;
 ghost use mathlib.Core.Path.{_≡_};
 ghost use mathlib.Core.Bool.{cond};
 ghost use Prim.Native.Nat.{ℕ, _+_, _≤_, _<_};
 ghost use lib.Dec.{T, ltb};
 ghost use lib.ListN.{length, getD};
 ghost use Rattle.covering.specs.Lists.{isSome};
-ghost use Rattle.covering.specs.Search.{placeTerm, placeTerms, placeAtom};
-ghost use Rattle.covering.specs.Record.{stored, termOf, argsAt, atomAt, usedFirst, isAtom};
+ghost use Rattle.covering.specs.Search.{placeTerm, placeTerms};
+ghost use Rattle.covering.specs.Record.{stored, termOf, argsAt, usedFirst};
+ghost use Rattle.covering.specs.Buffer.{recordRoom};
 ghost use Rattle.cover.specs.HeldMap.{partOf, put, sentTo, HadBefore, takenBack};
 
 // Where the variable t goes once j places of first from i on are sent to those of second from k on: 255 for nowhere.
-fn goes_to(first: &[u8], second: &[u8], map: &[u8], i: usize, k: usize, j: usize, t: u8) -> u8
+fn goes_to(
+    first: &[u8; RECORD],
+    second: &[u8; RECORD],
+    map: &[u8; VARIABLES],
+    i: usize,
+    k: usize,
+    j: usize,
+    t: u8,
+) -> u8
     requires { ⌜ (t < 96)
         × (length (now map) ≡ 96)
-        × (i + j ≤ length (now first))
-        × (k + j ≤ length (now second))
+        × (i + j ≤ recordRoom)
+        × (k + j ≤ recordRoom)
         × ((n : ℕ) → n < j → getD (now second) (k + n) 0 ≡ 255 → ⊥) ⌝ }
     ensures { λ r. ⌜ r
         ≡ getD (sentTo (now (map .entry)) (now (first .entry)) (now (second .entry)) i k j) t 0 ⌝ }
@@ -35,10 +46,17 @@ fn goes_to(first: &[u8], second: &[u8], map: &[u8], i: usize, k: usize, j: usize
 }
 
 // Whether the j-th place of first from i on, a term, can be sent to that of second from k on, after those before it.
-fn term_meets(first: &[u8], second: &[u8], map: &[u8], i: usize, k: usize, j: usize) -> bool
+fn term_meets(
+    first: &[u8; RECORD],
+    second: &[u8; RECORD],
+    map: &[u8; VARIABLES],
+    i: usize,
+    k: usize,
+    j: usize,
+) -> bool
     requires { ⌜ (length (now map) ≡ 96)
-        × (i + j < length (now first))
-        × (k + j < length (now second))
+        × (i + j < recordRoom)
+        × (k + j < recordRoom)
         × ((n : ℕ) → n < j → getD (now second) (k + n) 0 ≡ 255 → ⊥)
         × (getD (now second) (k + j) 0 ≡ 255 → ⊥)
         × (96 ≤ getD (now first) (i + j) 0 → 128 ≤ getD (now first) (i + j) 0) ⌝ }
@@ -62,10 +80,16 @@ fn term_meets(first: &[u8], second: &[u8], map: &[u8], i: usize, k: usize, j: us
 }
 
 // Whether the used places of first from i on can be sent to those of second from k on: as many, each to its own.
-fn terms_meet(first: &[u8], second: &[u8], map: &[u8], i: usize, k: usize) -> bool
+pub fn terms_meet(
+    first: &[u8; RECORD],
+    second: &[u8; RECORD],
+    map: &[u8; VARIABLES],
+    i: usize,
+    k: usize,
+) -> bool
     requires { ⌜ (length (now map) ≡ 96)
-        × (i + 6 ≤ length (now first))
-        × (k + 6 ≤ length (now second))
+        × (i + 6 ≤ recordRoom)
+        × (k + 6 ≤ recordRoom)
         × T (usedFirst stored (now first) i 6) ⌝ }
     ensures { λ r. ⌜ r
         ≡ isSome
@@ -90,28 +114,8 @@ fn terms_meet(first: &[u8], second: &[u8], map: &[u8], i: usize, k: usize) -> bo
     true
 }
 
-// Whether the atom of first at i can be placed on the atom of second at k, as the map is now.
-pub fn meets(first: &[u8], second: &[u8], map: &[u8], i: usize, k: usize) -> bool
-    requires { ⌜ (length (now map) ≡ 96)
-        × (i + 7 ≤ length (now first))
-        × (k + 7 ≤ length (now second))
-        × T (isAtom stored (now first) i) ⌝ }
-    ensures { λ r. ⌜ r
-        ≡ isSome
-        (placeAtom
-        (partOf (now (map .entry)))
-        (atomAt stored (now (first .entry)) i)
-        (atomAt stored (now (second .entry)) k)) ⌝ }
-{
-    if first[i] != second[k] {
-        return false;
-    }
-    terms_meet(first, second, map, i + 1, k + 1)
-}
-
 // Sends t, where it is a variable that goes nowhere yet, to u. Gives what the map had for it, 255 for a constant.
-fn send_term(map: &mut [u8], t: u8, u: u8) -> u8
-    requires { ⌜ length (now map) ≡ 96 ⌝ }
+fn send_term(map: &mut [u8; VARIABLES], t: u8, u: u8) -> u8
     ensures { λ r. ⌜ (now (map .exit) ≡ put (now (map .entry)) t u)
         × (r ≡ cond (ltb t 96) (getD (now (map .entry)) t 0) 255) ⌝ }
 {
@@ -128,8 +132,14 @@ fn send_term(map: &mut [u8], t: u8, u: u8) -> u8
 
 // Sends the places of first from i on to those of second from k on, where they meet. Gives what the map had for each,
 // to take back to.
-pub fn send(first: &[u8], second: &[u8], map: &mut [u8], i: usize, k: usize) -> [u8; 6]
-    requires { ⌜ (length (now map) ≡ 96) × (i + 6 ≤ length (now first)) × (k + 6 ≤ length (now second)) ⌝ }
+pub fn send(
+    first: &[u8; RECORD],
+    second: &[u8; RECORD],
+    map: &mut [u8; VARIABLES],
+    i: usize,
+    k: usize,
+) -> [u8; 6]
+    requires { ⌜ (i + 6 ≤ recordRoom) × (k + 6 ≤ recordRoom) ⌝ }
     ensures { λ r. ⌜ (now (map .exit)
         ≡ sentTo (now (map .entry)) (now (first .entry)) (now (second .entry)) i k 6)
         × HadBefore (now (map .entry)) (now (first .entry)) (now (second .entry)) i k 6 r ⌝ }
@@ -144,8 +154,8 @@ pub fn send(first: &[u8], second: &[u8], map: &mut [u8], i: usize, k: usize) -> 
 }
 
 // Takes the places of first from i on back to what the map had before they were sent, the last first.
-pub fn take_back(first: &[u8], map: &mut [u8], i: usize, before: [u8; 6])
-    requires { ⌜ (length (now map) ≡ 96) × (i + 6 ≤ length (now first)) ⌝ }
+pub fn take_back(first: &[u8; RECORD], map: &mut [u8; VARIABLES], i: usize, before: [u8; 6])
+    requires { ⌜ i + 6 ≤ recordRoom ⌝ }
     ensures { λ _. ⌜ now (map .exit) ≡ takenBack (now (map .entry)) (now (first .entry)) i before 6 ⌝ }
 {
     let mut left = 6;

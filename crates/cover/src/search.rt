@@ -1,9 +1,12 @@
 // The search for a covering map: one function takes the next atom, one tries its next candidate, and they call each
 // other. One map is lent through it. What an atom placed is taken back before its next candidate is tried, so a no
 // leaves the map as it came.
-use crate::place::meets;
+use crate::VARIABLES;
 use crate::place::send;
 use crate::place::take_back;
+use crate::place::terms_meet;
+use covering::RECORD;
+use records::copy_record;
 ghost use mathlib.Core.Path.{_≡_};
 ghost use Prim.Native.Nat.{_+_, _*_, _≤_, _<_};
 ghost use lib.Dec.{T, eqb};
@@ -13,27 +16,34 @@ ghost use Rattle.covering.specs.Lists.{isSome, any, all};
 ghost use Rattle.covering.specs.Term.{terms, eqTerm};
 ghost use Rattle.covering.specs.Search.{placeAtom, findMap, covers};
 ghost use Rattle.cover.specs.Candidates.{placedOn, foundOn, hasCandidate, newTo, leadsOn};
-ghost use Rattle.covering.specs.Record.{stored, termOf, argsAt, isAtom, atomAt, atomsAt, questionOf, SoundRecord};
+ghost use Rattle.covering.specs.Record.{stored, width, termOf, argsAt, isAtom, atomAt, atomsAt, questionOf, SoundRecord};
 ghost use Rattle.cover.specs.HeldMap.{partOf, Searched};
-ghost use Rattle.covering.specs.Buffer.{AtomsIn};
+ghost use Rattle.covering.specs.Buffer.{AtomsIn, recordRoom};
 
-// Whether the atom of first at i can be placed on one of the w atoms of second, as the map is now.
-fn has_candidate(first: &[u8], second: &[u8], map: &[u8], i: usize, w: usize) -> bool
+// Whether the atom of first at i can be placed on one of the atoms of second, as the map is now.
+fn has_candidate(
+    first: &[u8; RECORD],
+    second: &[u8; RECORD],
+    map: &[u8; VARIABLES],
+    i: usize,
+) -> bool
     requires { ⌜ (length (now map) ≡ 96)
-        × (i + 7 ≤ length (now first))
+        × (i + 7 ≤ recordRoom)
         × T (isAtom stored (now first) i)
-        × (1 + w * 7 ≤ length (now second)) ⌝ }
+        × (width stored (getD (now second) 0 0) ≤ recordRoom) ⌝ }
     ensures { λ r. ⌜ r
         ≡ hasCandidate
         (partOf (now (map .entry)))
-        (atomsAt stored (now (second .entry)) 1 w)
+        (questionOf stored (now (second .entry)))
         (atomAt stored (now (first .entry)) i) ⌝ }
 {
     let mut at = 1;
-    let mut more = w;
+    let mut more = second[0];
     while 0 < more {
-        if meets(first, second, map, i, at) {
-            return true;
+        if first[i] == second[at] {
+            if terms_meet(first, second, map, i + 1, at + 1) {
+                return true;
+            }
         }
         at += 7;
         more -= 1;
@@ -42,19 +52,26 @@ fn has_candidate(first: &[u8], second: &[u8], map: &[u8], i: usize, w: usize) ->
 }
 
 // The look-ahead: whether each of the `left` atoms of first from i on has a candidate.
-fn all_have(first: &[u8], second: &[u8], map: &[u8], i: usize, left: usize, w: usize) -> bool
+fn all_have(
+    first: &[u8; RECORD],
+    second: &[u8; RECORD],
+    map: &[u8; VARIABLES],
+    i: usize,
+    left: usize,
+) -> bool
     requires { ⌜ (length (now map) ≡ 96)
         × AtomsIn stored (now first) i left
-        × (1 + w * 7 ≤ length (now second)) ⌝ }
+        × (width stored (getD (now second) 0 0) ≤ recordRoom)
+        × (length (now first) ≡ recordRoom) ⌝ }
     ensures { λ r. ⌜ r
         ≡ all
-        (hasCandidate (partOf (now (map .entry))) (atomsAt stored (now (second .entry)) 1 w))
+        (hasCandidate (partOf (now (map .entry))) (questionOf stored (now (second .entry))))
         (atomsAt stored (now (first .entry)) i left) ⌝ }
 {
     let mut at = i;
     let mut more = left;
     while 0 < more {
-        if !has_candidate(first, second, map, at, w) {
+        if !has_candidate(first, second, map, at) {
             return false;
         }
         at += 7;
@@ -64,8 +81,8 @@ fn all_have(first: &[u8], second: &[u8], map: &[u8], i: usize, left: usize, w: u
 }
 
 // Whether t is one of the places of the atom of first at i.
-fn stands_at(first: &[u8], i: usize, t: u8) -> bool
-    requires { ⌜ (i + 7 ≤ length (now first)) × (t < 96) ⌝ }
+fn stands_at(first: &[u8; RECORD], i: usize, t: u8) -> bool
+    requires { ⌜ (i + 7 ≤ recordRoom) × (t < 96) ⌝ }
     ensures { λ r. ⌜ r ≡ any (eqTerm (termOf t)) (argsAt (now (first .entry)) (i + 1) 6) ⌝ }
 {
     let mut j = 0;
@@ -83,8 +100,8 @@ fn stands_at(first: &[u8], i: usize, t: u8) -> bool
 }
 
 // Whether t stands in one of the `left` atoms of first from i on.
-fn stands_in(first: &[u8], i: usize, left: usize, t: u8) -> bool
-    requires { ⌜ (i + left * 7 ≤ length (now first)) × (t < 96) ⌝ }
+fn stands_in(first: &[u8; RECORD], i: usize, left: usize, t: u8) -> bool
+    requires { ⌜ (i + left * 7 ≤ recordRoom) × (t < 96) ⌝ }
     ensures { λ r. ⌜ r ≡ any (eqTerm (termOf t)) (terms (atomsAt stored (now (first .entry)) i left)) ⌝ }
 {
     let mut at = i;
@@ -100,8 +117,8 @@ fn stands_in(first: &[u8], i: usize, left: usize, t: u8) -> bool
 }
 
 // Whether the place u of an atom is a variable that goes nowhere yet and stands in the `left` atoms of first from i on.
-fn place_leads(first: &[u8], map: &[u8], i: usize, left: usize, u: u8) -> bool
-    requires { ⌜ (length (now map) ≡ 96) × (i + left * 7 ≤ length (now first)) × (96 ≤ u → 128 ≤ u) ⌝ }
+fn place_leads(first: &[u8; RECORD], map: &[u8; VARIABLES], i: usize, left: usize, u: u8) -> bool
+    requires { ⌜ (length (now map) ≡ 96) × (i + left * 7 ≤ recordRoom) × (96 ≤ u → 128 ≤ u) ⌝ }
     ensures { λ r. ⌜ r
         ≡ (newTo (partOf (now (map .entry))) (termOf u)
         && any (eqTerm (termOf u)) (terms (atomsAt stored (now (first .entry)) i left))) ⌝ }
@@ -116,8 +133,10 @@ fn place_leads(first: &[u8], map: &[u8], i: usize, left: usize, u: u8) -> bool
 }
 
 // Whether the atom of first at i brings the `left` atoms after it a variable that goes nowhere yet.
-fn leads_on(first: &[u8], map: &[u8], i: usize, left: usize) -> bool
-    requires { ⌜ (length (now map) ≡ 96) × AtomsIn stored (now first) i (left + 1) ⌝ }
+fn leads_on(first: &[u8; RECORD], map: &[u8; VARIABLES], i: usize, left: usize) -> bool
+    requires { ⌜ (length (now map) ≡ 96)
+        × AtomsIn stored (now first) i (left + 1)
+        × (length (now first) ≡ recordRoom) ⌝ }
     ensures { λ r. ⌜ r
         ≡ leadsOn
         (partOf (now (map .entry)))
@@ -148,8 +167,10 @@ const MET: u8 = 2;
 
 // Whether no other candidate has to be tried: the atom of first at i met this one, those after it could not be placed, and
 // it brings them nothing new, so that they cannot be placed wherever it goes.
-fn gives_up(first: &[u8], map: &[u8], i: usize, left: usize, tried: u8) -> bool
-    requires { ⌜ (length (now map) ≡ 96) × AtomsIn stored (now first) i (left + 1) ⌝ }
+fn gives_up(first: &[u8; RECORD], map: &[u8; VARIABLES], i: usize, left: usize, tried: u8) -> bool
+    requires { ⌜ (length (now map) ≡ 96)
+        × AtomsIn stored (now first) i (left + 1)
+        × (length (now first) ≡ recordRoom) ⌝ }
     ensures { λ r. ⌜ r
         ≡ (eqb tried 2
         && not
@@ -164,24 +185,24 @@ fn gives_up(first: &[u8], map: &[u8], i: usize, left: usize, tried: u8) -> bool
     !leads_on(first, map, i, left)
 }
 
-// Takes the next atom: places the `left` atoms of first from i on, in order, on the w atoms of second, the next one on
-// the first candidate from which those after it can be placed too. A branch in which some atom has no candidate any more
-// ends at once; that changes no answer.
+// Takes the next atom: places the `left` atoms of first from i on, in order, on the atoms of second, the next one on the
+// first candidate from which those after it can be placed too. A branch in which some atom has no candidate any more ends
+// at once; that changes no answer.
 pub fn place_next(
-    first: &[u8],
-    second: &[u8],
-    map: &mut [u8],
+    first: &[u8; RECORD],
+    second: &[u8; RECORD],
+    map: &mut [u8; VARIABLES],
     i: usize,
     left: usize,
-    w: usize,
 ) -> bool
     requires { ⌜ (length (now map) ≡ 96)
         × AtomsIn stored (now first) i left
-        × (1 + w * 7 ≤ length (now second)) ⌝ }
+        × (width stored (getD (now second) 0 0) ≤ recordRoom)
+        × (length (now first) ≡ recordRoom) ⌝ }
     ensures { λ r. ⌜ Searched
         (findMap
         (atomsAt stored (now (first .entry)) i left)
-        (atomsAt stored (now (second .entry)) 1 w)
+        (questionOf stored (now (second .entry)))
         (partOf (now (map .entry))))
         (now (map .entry))
         (now (map .exit))
@@ -190,13 +211,13 @@ pub fn place_next(
     if left == 0 {
         return true;
     }
-    if !all_have(first, second, map, i, left, w) {
+    if !all_have(first, second, map, i, left) {
         return false;
     }
     let mut k = 1;
-    let mut more = w;
+    let mut more = second[0];
     while 0 < more {
-        let tried = try_candidate(first, second, map, i, left - 1, k, w);
+        let tried = try_candidate(first, second, map, i, left - 1, k);
         if tried == PLACED {
             return true;
         }
@@ -212,23 +233,23 @@ pub fn place_next(
 // Tries the next candidate: the atom of first at i goes to the atom of second at k, and the `left` atoms after it are
 // placed; where they cannot be, it is taken back. Says whether it met the candidate, and whether all were placed.
 fn try_candidate(
-    first: &[u8],
-    second: &[u8],
-    map: &mut [u8],
+    first: &[u8; RECORD],
+    second: &[u8; RECORD],
+    map: &mut [u8; VARIABLES],
     i: usize,
     left: usize,
     k: usize,
-    w: usize,
 ) -> u8
     requires { ⌜ (length (now map) ≡ 96)
         × AtomsIn stored (now first) i (left + 1)
-        × (k + 7 ≤ length (now second))
-        × (1 + w * 7 ≤ length (now second)) ⌝ }
+        × (k + 7 ≤ recordRoom)
+        × (width stored (getD (now second) 0 0) ≤ recordRoom)
+        × (length (now first) ≡ recordRoom) ⌝ }
     ensures { λ r. ⌜ Searched
         (placedOn
         (atomAt stored (now (first .entry)) i)
         (atomsAt stored (now (first .entry)) (i + 7) left)
-        (atomsAt stored (now (second .entry)) 1 w)
+        (questionOf stored (now (second .entry)))
         (partOf (now (map .entry)))
         (atomAt stored (now (second .entry)) k))
         (now (map .entry))
@@ -242,11 +263,14 @@ fn try_candidate(
         (atomAt stored (now (second .entry)) k))
         ≡ true) ⌝ }
 {
-    if !meets(first, second, map, i, k) {
+    if first[i] != second[k] {
+        return APART;
+    }
+    if !terms_meet(first, second, map, i + 1, k + 1) {
         return APART;
     }
     let before = send(first, second, map, i + 1, k + 1);
-    if place_next(first, second, map, i + 7, left, w) {
+    if place_next(first, second, map, i + 7, left) {
         return PLACED;
     }
     take_back(first, map, i + 1, before);
@@ -255,7 +279,7 @@ fn try_candidate(
 
 // Whether the first record covers the second, where both are known to be sound and count all their atoms. Where a
 // relation of the first does not stand in the second it does not, and no map is tried.
-pub fn covers_sound(first: &[u8], second: &[u8]) -> bool
+pub fn covers_sound(first: &[u8; RECORD], second: &[u8]) -> bool
     requires { ⌜ SoundRecord stored (now first) × SoundRecord stored (now second) ⌝ }
     ensures { λ r. ⌜ r
         ≡ covers (questionOf stored (now (first .entry))) (questionOf stored (now (second .entry))) ⌝ }
@@ -263,15 +287,14 @@ pub fn covers_sound(first: &[u8], second: &[u8]) -> bool
     if !records::are_among(first, records::relations(second)) {
         return false;
     }
-    let n = first[0] as usize;
-    let w = second[0] as usize;
-    let mut map = [255u8; 96];
-    place_next(first, second, &mut map, 1, n, w)
+    let held = copy_record(second);
+    let mut map = [255u8; VARIABLES];
+    place_next(first, &held, &mut map, 1, first[0] as usize)
 }
 
 // The same with first's first atom, which it has, on atom k of second: what a loop over candidates asks. The map is
 // lent, so that it is found once.
-pub fn covers_on(first: &[u8], second: &[u8], map: &mut [u8], k: usize) -> bool
+pub fn covers_on(first: &[u8], second: &[u8; RECORD], map: &mut [u8; VARIABLES], k: usize) -> bool
     requires { ⌜ SoundRecord stored (now first)
         × SoundRecord stored (now second)
         × (length (now map) ≡ 96)
@@ -287,7 +310,10 @@ pub fn covers_on(first: &[u8], second: &[u8], map: &mut [u8], k: usize) -> bool
         (now (map .exit))
         r ⌝ }
 {
-    let n = first[0] as usize;
-    let w = second[0] as usize;
-    try_candidate(first, second, map, 1, n - 1, 1 + k * 7, w) == PLACED
+    if first[1] != second[1 + k * 7] {
+        return false;
+    }
+    let held = copy_record(first);
+    let n = held[0] as usize;
+    try_candidate(&held, second, map, 1, n - 1, 1 + k * 7) == PLACED
 }

@@ -2,14 +2,13 @@
 use mathlib.Core.Path.{_≡_}
 use mathlib.Core.List.{List}
 use Prim.Native.Nat.{ℕ}
-use native.Mathlib.Omega.{arith}
 use lib.ListN.{length}
 use Rattle.covering.specs.Lists.{_∈_}
 use Rattle.covering.specs.Term.{Question}
 use Rattle.covering.specs.Record.{stored, questionOf, Fits, SoundRecord}
 use Rattle.covering.specs.Buffer.{heldIn, recordRoom}
 use Rattle.covering.specs.Asking.{Shaped}
-use Rattle.covering.proofs.Padded.{held-length, stored-question, stored-sound}
+use Rattle.covering.proofs.Padded.{stored-question, stored-sound}
 use Rattle.reading.specs.Book.{bookOf, layoutOf}
 use Rattle.reading.specs.Verdict.{SoundBook}
 use Rattle.exploration.specs.Run.{allRewritings}
@@ -32,6 +31,3 @@ module _ (B : List ℕ) (s : SoundBook B) (M : Question) (m : Fits (layoutOf B) 
 
       pub rewriting-question : questionOf stored (heldIn stored recordRoom P) ≡ P
       rewriting-question = stored-question P (rewriting-stored B s M m t P x)
-
-      pub rewriting-long : length (heldIn stored recordRoom P) ≡ recordRoom
-      rewriting-long = held-length stored recordRoom P (omega (arith, rewriting-stored B s M m t P x .most))

@@ -3,7 +3,6 @@ ghost use mathlib.Core.Path.{_≡_};
 ghost use Prim.Native.Nat.{_<_};
 ghost use lib.ListN.{drop};
 ghost use Rattle.covering.specs.Record.{stored, questionOf, SoundRecord};
-ghost use Rattle.covering.specs.Buffer.{heldIn, recordRoom};
 ghost use Rattle.reading.specs.Book.{bookOf};
 ghost use Rattle.reading.specs.Header.{rules as rulesOf, formOf, new};
 ghost use Rattle.reading.specs.Verdict.{SoundBook};
@@ -20,21 +19,6 @@ use admit::Extent;
 use admit::FIRST;
 use covering::RECORD;
 
-// The record at the front of 85 bytes, the rest 255.
-fn copy_record(member: &[u8]) -> [u8; RECORD]
-    requires { ⌜ SoundRecord stored (now member) ⌝ }
-    ensures { λ r. ⌜ r ≡ heldIn stored recordRoom (questionOf stored (now (member .entry))) ⌝ }
-{
-    let width = records::width(member[0]);
-    let mut copy = [255u8; RECORD];
-    let mut i = 0;
-    while i < width {
-        copy[i] = member[i];
-        i += 1;
-    }
-    copy
-}
-
 // The oldest unexplored member.
 pub fn oldest(work: &[u8], filled: Extent) -> [u8; RECORD]
     requires { ⌜ Working (now work) filled × (filled .front < filled .count) ⌝ }
@@ -46,7 +30,7 @@ pub fn oldest(work: &[u8], filled: Extent) -> [u8; RECORD]
         at += records::width(work[at]);
         passed += 1;
     }
-    copy_record(&work[at..])
+    records::copy_record(&work[at..])
 }
 
 // The first rewriting of the member from choice `from` of the k-th rule on: "rules in book order, choices in theirs". It

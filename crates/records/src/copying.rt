@@ -1,6 +1,8 @@
-// Atoms copied from one width to another: the terms as they are, the rest of the places 255.
+// Atoms copied from one width to another, the terms as they are, the rest of the places 255; and a record copied to the
+// bytes in which the code holds one.
 use crate::PLACES;
 use crate::record::answers;
+use crate::record::width;
 use covering::RECORD;
 ghost use mathlib.Core.Path.{_≡_};
 ghost use Prim.Native.Nat.{_+_, _*_, _≤_};
@@ -10,6 +12,7 @@ ghost use Rattle.covering.specs.Lists.{_∈_, gather};
 ghost use Rattle.covering.specs.Term.{Atom};
 ghost use Rattle.covering.specs.Asking.{joined};
 ghost use Rattle.covering.specs.Record.{desk, holding, stored, atomAt, atomsAt, isAtom, atomBytes, askingOf, isDeskRecord};
+ghost use Rattle.covering.specs.Record.{questionOf, SoundRecord};
 ghost use Rattle.covering.specs.Buffer.{AtomsIn, heldIn, recordRoom, placeOr};
 ghost use Rattle.covering.specs.Put.{Puts};
 
@@ -88,4 +91,19 @@ pub fn widened(s: &[u8], w: usize) -> [u8; RECORD]
     held[0] = n;
     copy_atoms(s, 1, n as usize, w, &mut held, 1, PLACES);
     held
+}
+
+// The record at the front of 85 bytes, the rest 255.
+pub fn copy_record(member: &[u8]) -> [u8; RECORD]
+    requires { ⌜ SoundRecord stored (now member) ⌝ }
+    ensures { λ r. ⌜ r ≡ heldIn stored recordRoom (questionOf stored (now (member .entry))) ⌝ }
+{
+    let width = width(member[0]);
+    let mut copy = [255u8; RECORD];
+    let mut i = 0;
+    while i < width {
+        copy[i] = member[i];
+        i += 1;
+    }
+    copy
 }

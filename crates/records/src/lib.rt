@@ -6,6 +6,7 @@ mod record;
 mod sets;
 
 pub use copying::copy_atoms;
+pub use copying::copy_record;
 pub use copying::widened;
 pub use record::answers;
 pub use record::is_record;

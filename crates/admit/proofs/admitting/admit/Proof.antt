@@ -21,10 +21,10 @@ use Rattle.admit.proofs.admitting.admit.Tie as tie
 -- points of the walk: where the function began, where no member was found to cover the rewriting, and where those that
 -- it covers are removed
 abbrev start : tie.Else1 → tie.Start
-start e = e .before .before .before .before .before .before .before .before
+start e = e .before .before .before .before .before .before
 
 abbrev found : tie.Else1 → ℕ
-found e = e .before .before .before .member-covering .result
+found e = e .before .before .member-covering .result
 
 abbrev looked : tie.After-remove-covered → tie.Else1
 looked r = r .before .before .before .before
@@ -34,7 +34,7 @@ question e = questionOf stored (start e .args .rewriting .now)
 
 first : (e : tie.Else1)
     → found e ≡ beforeCovering covers (question e) (heldFrom (start e .args .work .now) firstAt (start e .args .filled .count))
-first e = e .before .before .before .member-covering .ensures .0
+first e = e .before .before .member-covering .ensures .0
 
 -- it is short enough, and there is a working array without what it covers
 short : (r : tie.After-remove-covered) → length (question (looked r)) ≤ 8 + start (looked r) .args .answers
@@ -43,12 +43,9 @@ short r = omega (arith, question-count stored (start (looked r) .args .rewriting
 fits : (r : tie.After-remove-covered) → Fits stored (question (looked r))
 fits r = sound-stored _ (start (looked r) .pre .1)
 
-slice-aggregate-member-covering : tie.Need-slice-aggregate-member-covering
-slice-aggregate-member-covering c = search needs
-
 member-covering-requires : tie.Need-member-covering-requires
 member-covering-requires c κs =
-    let b = c .before .before .before .before in
+    let b = c .before .before .before in
     (b .pre .0 .few, stands-all (b .pre .0), b .pre .1, refl)
 
 same-length : tie.Need-same-length
@@ -56,14 +53,14 @@ same-length c = search needs
 
 returns : tie.Need-returns
 returns c =
-    let b = c .before .before .before .before .before .before .before .before in
-    fate-dropped (b .args .answers) (b .pre .2) (b .pre .0) _ _ (c .before .before .before .member-covering .ensures .0) (c .if1 .taken)
+    let b = c .before .before .before .before .before .before in
+    fate-dropped (b .args .answers) (b .pre .2) (b .pre .0) _ _ (c .before .before .member-covering .ensures .0) (c .if1 .taken)
 
 add-if2 : tie.Need-add-if2
 add-if2 c = omega (arith, start c .pre .2)
 
-shared-slice-read-if2 : tie.Need-shared-slice-read-if2
-shared-slice-read-if2 c = search needs
+element-copy-out-if2 : tie.Need-element-copy-out-if2
+element-copy-out-if2 c = search needs
 
 same-length-2 : tie.Need-same-length-2
 same-length-2 c = search needs
@@ -89,12 +86,12 @@ returns-3 c =
 
 append-requires : tie.Need-append-requires
 append-requires c κs =
-    let r = c .before .before .before .before .before in
+    let r = c .before .before .before .before .before .before in
     let e = looked r in
     let kept = r .remove-covered .ensures in
     let room =
     room-left (start e .args .answers) (start e .pre .2) (start e .pre .0) _ _ (first e) (e .if1 .left) (short r) (kept .0) (kept .1) (fits r)
-    (c .before .if3 .left) in
+    (c .before .before .if3 .left) in
     (start e .pre .1, omega (arith, room, begun-long stored (start e .args .rewriting .now), kept .0 .held .size))
 
 add-t8 : tie.Need-add-t8
@@ -105,23 +102,22 @@ same-length-4 c = search needs
 
 returns-4 : tie.Need-returns-4
 returns-4 c =
-    let r = c .before .before .before .before .before .before .before .before .before in
+    let r = c .before .before .before .before .before .before .before .before .before .before in
     let e = looked r in
     let kept = r .remove-covered .ensures in
     let put = c .before .before .before .append .ensures in
     fate-appended (start e .args .answers) (start e .pre .2) (start e .pre .0) _ _ (first e) (e .if1 .left) (short r) (kept .0) (kept .1) (fits r)
-    (c .before .before .before .before .before .if3 .left) _ _ (put .0) (put .1)
+    (c .before .before .before .before .before .before .if3 .left) _ _ (put .0) (put .1)
 
 pub admit-spec : {M : Type 1} → statement M
 admit-spec =
     tie.close
     (tie.spec
-    slice-aggregate-member-covering
     member-covering-requires
     same-length
     returns
     add-if2
-    shared-slice-read-if2
+    element-copy-out-if2
     same-length-2
     returns-2
     remove-covered-requires

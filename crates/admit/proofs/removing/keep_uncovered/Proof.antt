@@ -29,7 +29,7 @@ inside t = within _ _ _ _ _ (turn t .loop .inv) (t .loop-test .taken)
 
 loop-holds : tie.Need-loop-holds Inv-loop μ-loop
 loop-holds c =
-    let b = c .before .before in
+    let b = c .before in
     let a = b .args in
     midway-start (a .work .now) (a .from) (a .to) (a .n) (questionOf stored (a .rewriting .now)) (b .pre .0) (b .pre .2)
 
@@ -51,7 +51,7 @@ part-covers-sound-end c = search needs
 covers-sound-requires : tie.Need-covers-sound-requires Inv-loop μ-loop
 covers-sound-requires c κs =
     let t = c .before .before .before .before in
-    (turn t .before .before .before .pre .3, sound-part _ _ _ _ _ (turn t .loop .inv) (t .loop-test .taken))
+    (turn t .before .before .pre .3, sound-part _ _ _ _ _ (turn t .loop .inv) (t .loop-test .taken))
 
 move-down-requires : tie.Need-move-down-requires Inv-loop μ-loop
 move-down-requires c κs =
@@ -102,7 +102,7 @@ same-length c = c .before .loop .inv .size
 
 returns : tie.Need-returns Inv-loop μ-loop
 returns c =
-    let a = c .before .before .before .before .args in
+    let a = c .before .before .before .args in
     midway-done (a .work .now) (a .from) (a .to) (a .n) (questionOf stored (a .rewriting .now)) (c .before .loop .inv)
     (c .loop-test .left)
 

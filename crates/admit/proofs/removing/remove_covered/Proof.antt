@@ -7,7 +7,7 @@ use Rattle.admit.proofs.removing.remove_covered.Tie as tie
 
 keep-uncovered-requires : tie.Need-keep-uncovered-requires
 keep-uncovered-requires c κs =
-    let b = c .before .before .before in
+    let b = c .before .before in
     let w = b .pre .0 in
     (omega arith, omega (arith, w .ahead, w .few), parts-stand w .0, b .pre .1)
 
@@ -16,7 +16,7 @@ sub-keep-uncovered c = search needs
 
 keep-uncovered-requires-2 : tie.Need-keep-uncovered-requires-2
 keep-uncovered-requires-2 c κs =
-    let b = c .before .before .before .before .before .before .before .before in
+    let b = c .before .before .before .before .before .before .before in
     let k = c .before .before .before .before .keep-uncovered .ensures in
     let w = b .pre .0 in
     (k .lower, omega (arith, w .few), others-stand w _ k, b .pre .1)
@@ -24,7 +24,7 @@ keep-uncovered-requires-2 c κs =
 add-t10 : tie.Need-add-t10
 add-t10 c =
     let first = c .before .before .before .before .before .before .before .before .before in
-    let w = first .before .before .before .before .pre .0 in
+    let w = first .before .before .before .pre .0 in
     omega (arith, removed-few w _ (first .keep-uncovered .ensures) (c .before .before .before .before .keep-uncovered2 .ensures))
 
 same-length : tie.Need-same-length
@@ -33,7 +33,7 @@ same-length c = search needs
 returns : tie.Need-returns
 returns c =
     let first = c .before .before .before .before .before .before .before .before .before in
-    let w = first .before .before .before .before .pre .0 in
+    let w = first .before .before .before .pre .0 in
     let k = first .keep-uncovered .ensures in
     let l = c .before .before .before .before .keep-uncovered2 .ensures in
     (removed-working w _ k l, removed-state w _ k l)

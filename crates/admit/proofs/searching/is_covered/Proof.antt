@@ -11,20 +11,15 @@ use Rattle.admit.proofs.Finding.{covering-found}
 use Rattle.admit.proofs.searching.is_covered.Statement.{statement}
 use Rattle.admit.proofs.searching.is_covered.Tie as tie
 
-slice-aggregate-member-covering : tie.Need-slice-aggregate-member-covering
-slice-aggregate-member-covering c = search needs
-
 member-covering-requires : tie.Need-member-covering-requires
 member-covering-requires c κs = search needs
 
 returns : tie.Need-returns
 returns c =
-    let m = c .before in
-    let a = m .before .before .before .before .args in
+    let a = c .before .before .before .args in
     sym
     (covering-found covers (questionOf stored (a .question .now)) (heldFrom (a .work .now) firstAt (a .count))
-    ∙ ap₂ ltb (sym (m .member-covering .ensures .0)) (members-count (a .work .now) firstAt (a .count)))
+    ∙ ap₂ ltb (sym (c .member-covering .ensures .0)) (members-count (a .work .now) firstAt (a .count)))
 
 pub is-covered-spec : {M : Type 1} → statement M
-is-covered-spec =
-    tie.close (tie.spec slice-aggregate-member-covering member-covering-requires returns)
+is-covered-spec = tie.close (tie.spec member-covering-requires returns)

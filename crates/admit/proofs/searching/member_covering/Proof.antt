@@ -51,7 +51,7 @@ abbrev μ-members : tie.MeasureT-members
 
 -- where the function began, and where this turn did, from the loop over candidates
 abbrev start : tie.Else1 Inv-atoms μ-atoms Inv-members μ-members → tie.Start Inv-atoms μ-atoms Inv-members μ-members
-start c = c .before .before .before .before .before .before .before
+start c = c .before .before .before .before .before .before
 
 abbrev turn : tie.At-atoms Inv-atoms μ-atoms Inv-members μ-members → tie.Else1 Inv-atoms μ-atoms Inv-members μ-members
 turn c = c .before .before .before .before .before .before .before
@@ -68,8 +68,8 @@ some : (c : tie.Else2 Inv-atoms μ-atoms Inv-members μ-members)
 some c =
     omega (arith, count-from (start (c .before .before) .args .work .now) (c .before .before .before .members .at), c .if2 .left)
 
-shared-slice-read-w : tie.Need-shared-slice-read-w Inv-atoms μ-atoms Inv-members μ-members
-shared-slice-read-w c = search needs
+element-copy-out-w : tie.Need-element-copy-out-w Inv-atoms μ-atoms Inv-members μ-members
+element-copy-out-w c = search needs
 
 cast-w : tie.Need-cast-w Inv-atoms μ-atoms Inv-members μ-members
 cast-w c = search needs
@@ -79,7 +79,7 @@ relations-requires c κs = search needs
 
 members-holds : tie.Need-members-holds Inv-atoms μ-atoms Inv-members μ-members
 members-holds c =
-    let s = c .before .before .before .before .before in
+    let s = c .before .before .before .before in
     (search needs, rw sub-zero (s .pre .1), rw (sub-zero, zero-add), s .pre .3, rw sub-zero refl)
 
 shared-slice-read-if2 : tie.Need-shared-slice-read-if2 Inv-atoms μ-atoms Inv-members μ-members
@@ -133,7 +133,7 @@ atoms-less c = search needs
 
 atoms-again : tie.Need-atoms-again Inv-atoms μ-atoms Inv-members μ-members
 atoms-again c =
-    let d = c .before .before .before in
+    let d = c .before in
     let l = d .before .before .before in
     let b = turn l in
     let a = start b .args in
@@ -176,12 +176,9 @@ members-again c =
     ) in
     (search needs, next .0, omega (arith, b .before .members .inv .2, next .1), c .before .atoms .inv .1, b .before .members .inv .4 ∙ next .2)
 
-same-length : tie.Need-same-length Inv-atoms μ-atoms Inv-members μ-members
-same-length c = ap length (c .before .members .inv .3 ∙ sym (c .before .before .before .before .before .before .before .pre .3))
-
 returns : tie.Need-returns Inv-atoms μ-atoms Inv-members μ-members
 returns c =
-    let a = c .before .before .before .before .before .before .before .args in
+    let a = c .before .before .before .before .before .before .args in
     let e =
     first-end covers (questionOf stored (a .rewriting .now)) (a .work .now) (c .before .members .at)
     (c .before .members .i) (a .count) (c .if1 .taken) in
@@ -189,11 +186,6 @@ returns c =
     by-end (questionOf stored (a .rewriting .now)) (a .work .now) (c .before .members .at)
     (c .before .members .i) (a .count) (c .if1 .taken) in
     (omega (arith, c .before .members .inv .2, e), c .before .members .inv .3 ∙ ap (mapOr 96) (sym (c .before .members .inv .4 ∙ f)))
-
-same-length-2 : tie.Need-same-length-2 Inv-atoms μ-atoms Inv-members μ-members
-same-length-2 c =
-    let b = c .before .before in
-    ap length (b .before .members .inv .3 ∙ sym (start b .pre .3))
 
 returns-2 : tie.Need-returns-2 Inv-atoms μ-atoms Inv-members μ-members
 returns-2 c =
@@ -207,15 +199,9 @@ returns-2 c =
     by-hit (questionOf stored (a .rewriting .now)) (a .work .now) at _ _ (b .if1 .left) (ap isSome one) in
     (omega (arith, b .before .members .inv .2, e), b .before .members .inv .3 ∙ sym (nowhere-map 96) ∙ ap (mapOr 96) (sym (b .before .members .inv .4 ∙ f ∙ one)))
 
-same-length-3 : tie.Need-same-length-3 Inv-atoms μ-atoms Inv-members μ-members
-same-length-3 c =
-    let d = c .before .before .before in
-    let l = d .before .before .before in
-    d .covers-on .kept .1 .1 .0 ∙ ap length (l .atoms .inv .1 ∙ sym (start (turn l) .pre .3))
-
 returns-3 : tie.Need-returns-3 Inv-atoms μ-atoms Inv-members μ-members
 returns-3 c =
-    let d = c .before .before .before in
+    let d = c .before in
     let l = d .before .before .before in
     let b = turn l in
     let a = start b .args in
@@ -228,7 +214,7 @@ returns-3 c =
     let f =
     by-hit (questionOf stored (a .rewriting .now)) (a .work .now) (b .before .members .at) _ _ (b .if1 .left) (ap isSome one ∙ yes) in (
       omega (arith, b .before .members .inv .2, e),
-      searched-map _ _ _ (d .covers-on .kept .1 .1 .0 ∙ ap length (l .atoms .inv .1)) s
+      searched-map _ _ _ s
           ∙ ap (mapOr 96) (sym (b .before .members .inv .4 ∙ f ∙ one)),
     )
 
@@ -240,7 +226,7 @@ member-covering-spec =
     μ-atoms
     Inv-members
     μ-members
-    shared-slice-read-w
+    element-copy-out-w
     cast-w
     relations-requires
     members-holds
@@ -260,9 +246,6 @@ member-covering-spec =
     add-i
     members-less
     members-again
-    same-length
     returns
-    same-length-2
     returns-2
-    same-length-3
     returns-3)

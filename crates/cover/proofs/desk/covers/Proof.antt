@@ -54,9 +54,6 @@ returns-2 c =
     let f = sym (b .before .is-record2 .ensures) ∙ not-true _ (b .if2 .taken) in
     (sym (answer-3 _ _ _ e f), c .no-map2 .ensures ∙ sym (map-3 _ _ _ e f))
 
-slice-aggregate-covers-record : tie.Need-slice-aggregate-covers-record
-slice-aggregate-covers-record c = search needs
-
 covers-record-requires : tie.Need-covers-record-requires
 covers-record-requires c κs = (true→T _ (first-is (c .before)), true→T _ (second-is (c .before)), refl)
 
@@ -68,7 +65,7 @@ told : (r : tie.After-covers-record)
 told r =
     let a = start (r .before .before) .args in
     let o = coveringMap (askingOf (desk (a .w)) (a .first .now)) (askingOf (desk (a .w)) (a .second .now)) in
-    ap (take mapSize) (searched-map o _ _ (r .covers-record .kept .1 .1 .1 .0) (r .covers-record .ensures))
+    ap (take mapSize) (searched-map o _ _ (r .covers-record .ensures))
     ∙ front-map o
     ∙ sym (map-covers _ _ _ (first-is (r .before .before)) (second-is (r .before .before)))
 
@@ -76,11 +73,11 @@ slice-aggregate-front : tie.Need-slice-aggregate-front
 slice-aggregate-front c = search needs
 
 front-requires : tie.Need-front-requires
-front-requires c κs = c .before .before .before .covers-record .kept .1 .1 .1 .0
+front-requires c κs = c .before .before .covers-record .ensures .long
 
 returns-3 : tie.Need-returns-3
 returns-3 c =
-    let r = c .before .before .before .before in
+    let r = c .before .before .before in
     let b = r .before .before in
     let answer = answer-covers _ _ _ (first-is b) (second-is b) in
     let yes = ap as-number (sym (said-yes _ _ _ (r .covers-record .ensures .finds)) ∙ c .before .before .if3 .taken) in
@@ -90,11 +87,11 @@ slice-aggregate-front-2 : tie.Need-slice-aggregate-front-2
 slice-aggregate-front-2 c = search needs
 
 front-requires-2 : tie.Need-front-requires-2
-front-requires-2 c κs = c .before .before .before .covers-record .kept .1 .1 .1 .0
+front-requires-2 c κs = c .before .before .covers-record .ensures .long
 
 returns-4 : tie.Need-returns-4
 returns-4 c =
-    let r = c .before .before .before .before in
+    let r = c .before .before .before in
     let b = r .before .before in
     let answer = answer-covers _ _ _ (first-is b) (second-is b) in
     let no = ap as-number (sym (said-yes _ _ _ (r .covers-record .ensures .finds)) ∙ c .before .before .if3 .left) in
@@ -110,7 +107,6 @@ covers-spec =
     is-record-requires-2
     no-map-requires-2
     returns-2
-    slice-aggregate-covers-record
     covers-record-requires
     slice-aggregate-front
     front-requires

@@ -2,7 +2,7 @@
 -- one conjunction, which a widened record holds.
 use borrow.Author.Needs.{needs}
 use native.Mathlib.Omega.{arith}
-use mathlib.Core.Path.{_≡_, sym, _∙_, ap, ap₂}
+use mathlib.Core.Path.{_≡_, refl, sym, _∙_, ap, ap₂}
 use Prim.Native.Nat.{ℕ, _≤_}
 use lib.ListN.{length}
 use Rattle.covering.specs.Asking.{records, joined}
@@ -11,7 +11,9 @@ use Rattle.covering.specs.Record.{desk, stored, answers, askingOf, Fits}
 use Rattle.covering.proofs.Bytes.{Passed, record-passed, desk-passed, width-least, width-most}
 use Rattle.covering.proofs.DeskRecords.{desk-free, desk-fits, desk-records}
 use Rattle.covering.proofs.Within.{held-within}
+use Rattle.covering.proofs.Places.{question-at}
 use Rattle.covering.proofs.AnsweredCovers.{same-records, other-records}
+use Rattle.covering.specs.Buffer.{recordRoom}
 use Rattle.cover.specs.HeldMap.{partOf}
 use Rattle.cover.proofs.Maps.{part-nowhere}
 use Rattle.cover.proofs.SearchSteps.{not-found, searched-as}
@@ -57,7 +59,7 @@ answers-requires-2 c κs = search needs
 returns : tie.Need-returns
 returns c =
     let b = c .before in
-    let s = b .before .before .before .before .before in
+    let s = b .before .before .before .before in
     not-found _ _
     (other-records (askingOf (desk (s .args .w)) (s .args .first .now)) (askingOf (desk (s .args .w)) (s .args .second .now))
     (λ e.
@@ -65,10 +67,10 @@ returns c =
     (b .before .answers .ensures ∙ sym (first-answers s) ∙ e ∙ second-answers s ∙ sym (b .answers2 .ensures))))
 
 widened-requires : tie.Need-widened-requires
-widened-requires c κs = c .before .before .before .before .before .before .pre .0
+widened-requires c κs = c .before .before .before .before .before .pre .0
 
 widened-requires-2 : tie.Need-widened-requires-2
-widened-requires-2 c κs = c .before .before .before .before .before .before .before .pre .1
+widened-requires-2 c κs = c .before .before .before .before .before .before .pre .1
 
 array-read-n : tie.Need-array-read-n
 array-read-n c = search needs
@@ -76,37 +78,24 @@ array-read-n c = search needs
 cast-n : tie.Need-cast-n
 cast-n c = search needs
 
-array-read-m : tie.Need-array-read-m
-array-read-m c = search needs
-
-cast-m : tie.Need-cast-m
-cast-m c = search needs
-
-slice-aggregate-place-next : tie.Need-slice-aggregate-place-next
-slice-aggregate-place-next c = search needs
-
-slice-aggregate-place-next-2 : tie.Need-slice-aggregate-place-next-2
-slice-aggregate-place-next-2 c = search needs
-
 place-next-requires : tie.Need-place-next-requires
 place-next-requires c κs =
     let d = c .before .before .before in
-    let s = d .before .before .before .before .before .before .before .before in (
+    let s = d .before .before .before .before .before .before .before in
+    let long : length (d .before .widened .result) ≡ recordRoom = search needs in
+    let room : length (d .widened2 .result) ≡ recordRoom = search needs in (
       ap length (s .pre .2),
       held-within _ _ (first-fits s) (d .before .widened .ensures) .0,
-      held-within _ _ (second-fits s) (d .widened2 .ensures) .0 .fits,
+      rw (← room) (held-within _ _ (second-fits s) (d .widened2 .ensures) .0 .fits),
+      long,
     )
-
-same-length : tie.Need-same-length
-same-length c = c .before .before .place-next .kept .1 .1 .0
 
 returns-2 : tie.Need-returns-2
 unfolding firstMap
 returns-2 c =
-    let n = c .before .before in
-    let d = n .before .before .before .before in
+    let d = c .before .before .before .before in
     let i = d .before .before in
-    let s = i .before .before .before .before .before .before in
+    let s = i .before .before .before .before .before in
     let F = askingOf (desk (s .args .w)) (s .args .first .now) in
     let S = askingOf (desk (s .args .w)) (s .args .second .now) in
     let same : records (F .answer) ≡ records (S .answer) =
@@ -121,13 +110,13 @@ returns-2 c =
     let e =
     ap₂ (λ A B. findMap A B (partOf (s .args .map .now)))
     (held-within _ _ (first-fits s) (d .before .widened .ensures) .1)
-    (held-within _ _ (second-fits s) (d .widened2 .ensures) .1)
+    (question-at stored _ refl ∙ held-within _ _ (second-fits s) (d .widened2 .ensures) .1)
     ∙ ap (findMap _ _) (ap partOf (s .pre .2) ∙ part-nowhere 96)
     ∙ sym
     (same-records F S
     (desk-free (s .args .w) (some-place s) (s .args .second .now) (second-passed s))
     same) in
-    searched-as _ _ _ _ _ e (n .place-next .ensures)
+    searched-as _ _ _ _ _ e (c .place-next .ensures)
 
 pub covers-record-spec : {M : Type 1} → statement M
 covers-record-spec =
@@ -140,10 +129,5 @@ covers-record-spec =
     widened-requires-2
     array-read-n
     cast-n
-    array-read-m
-    cast-m
-    slice-aggregate-place-next
-    slice-aggregate-place-next-2
     place-next-requires
-    same-length
     returns-2)

@@ -15,8 +15,8 @@ Inv-loop first second map i k j t had n₀ n = (n ≤ j) × (getD (sentTo map fi
 abbrev μ-loop : tie.MeasureT-loop
 μ-loop first second map i k j t had n₀ n = j - n
 
-shared-slice-read-had : tie.Need-shared-slice-read-had Inv-loop μ-loop
-shared-slice-read-had c = omega arith
+element-copy-out-had : tie.Need-element-copy-out-had Inv-loop μ-loop
+element-copy-out-had c = omega arith
 
 returns : tie.Need-returns Inv-loop μ-loop
 returns c = sym (sent-kept _ _ _ _ _ _ _ (c .if1 .taken))
@@ -30,14 +30,14 @@ loop-holds c =
 add-if2 : tie.Need-add-if2 Inv-loop μ-loop
 add-if2 c = omega arith
 
-shared-slice-read-if2 : tie.Need-shared-slice-read-if2 Inv-loop μ-loop
-shared-slice-read-if2 c = omega arith
+element-copy-out-if2 : tie.Need-element-copy-out-if2 Inv-loop μ-loop
+element-copy-out-if2 c = omega arith
 
 add-result : tie.Need-add-result Inv-loop μ-loop
 add-result c = omega arith
 
-shared-slice-read-result : tie.Need-shared-slice-read-result Inv-loop μ-loop
-shared-slice-read-result c = omega arith
+element-copy-out-result : tie.Need-element-copy-out-result Inv-loop μ-loop
+element-copy-out-result c = omega arith
 
 returns-2 : tie.Need-returns-2 Inv-loop μ-loop
 returns-2 c =
@@ -72,13 +72,13 @@ goes-to-spec =
     (tie.spec
     Inv-loop
     μ-loop
-    shared-slice-read-had
+    element-copy-out-had
     returns
     loop-holds
     add-if2
-    shared-slice-read-if2
+    element-copy-out-if2
     add-result
-    shared-slice-read-result
+    element-copy-out-result
     returns-2
     add-n
     loop-less

@@ -1,10 +1,11 @@
 -- `cover::place::send` meets its contract. The loop's invariant: j places are sent, and what the map had for each is
 -- kept. The measure is the number of places left.
+use borrow.Author.Needs.{needs}
 use native.Mathlib.Omega.{arith}
 use mathlib.Core.Path.{_≡_, refl, sym, _∙_}
 use Prim.Native.Nat.{_-_, _≤_}
 use Rattle.cover.specs.HeldMap.{sentTo, HadBefore}
-use Rattle.cover.proofs.Sent.{sent-none, sent-more, length-sent, had-none, had-more}
+use Rattle.cover.proofs.Sent.{sent-none, sent-more, had-none, had-more}
 use Rattle.cover.proofs.place.send.Statement.{statement}
 use Rattle.cover.proofs.place.send.Tie as tie
 
@@ -20,19 +21,17 @@ loop-holds c = (omega arith, sym (sent-none _ _ _ _ _), had-none _ _ _ _ _ _ ref
 add-send-term : tie.Need-add-send-term Inv-loop μ-loop
 add-send-term c = omega arith
 
-shared-slice-read-send-term : tie.Need-shared-slice-read-send-term Inv-loop μ-loop
-shared-slice-read-send-term c = omega arith
+element-copy-out-send-term : tie.Need-element-copy-out-send-term Inv-loop μ-loop
+element-copy-out-send-term c = omega arith
 
 add-send-term-2 : tie.Need-add-send-term-2 Inv-loop μ-loop
 add-send-term-2 c = omega arith
 
-shared-slice-read-send-term-2 : tie.Need-shared-slice-read-send-term-2 Inv-loop μ-loop
-shared-slice-read-send-term-2 c = omega arith
+element-copy-out-send-term-2 : tie.Need-element-copy-out-send-term-2 Inv-loop μ-loop
+element-copy-out-send-term-2 c = omega arith
 
 send-term-requires : tie.Need-send-term-requires Inv-loop μ-loop
-send-term-requires c κs =
-    let l = c .before .before .before .before in
-    rw (l .loop .inv .1) (length-sent _ _ _ _ _ _ ∙ l .before .before .before .before .pre .0)
+send-term-requires c κs = search needs
 
 array-write-before : tie.Need-array-write-before Inv-loop μ-loop
 array-write-before c = omega arith
@@ -45,17 +44,12 @@ loop-less c = omega arith
 
 loop-again : tie.Need-loop-again Inv-loop μ-loop
 loop-again c =
-    let s = c .before .before .send-term in
-    let l = c .before .before .before .before .before .before .before in (
+    let s = c .send-term in
+    let l = c .before .before .before .before .before in (
       omega arith,
       s .ensures .0 ∙ rw (l .loop .inv .1) (sym (sent-more _ _ _ _ _ _)),
       had-more _ _ _ _ _ _ _ _ (omega arith) (l .loop .inv .2) (s .ensures .1 ∙ rw (l .loop .inv .1) refl),
     )
-
-same-length : tie.Need-same-length Inv-loop μ-loop
-same-length c =
-    let l = c .before in
-    rw (l .loop .inv .1) (length-sent _ _ _ _ _ _)
 
 returns : tie.Need-returns Inv-loop μ-loop
 returns c =
@@ -71,13 +65,12 @@ send-spec =
     μ-loop
     loop-holds
     add-send-term
-    shared-slice-read-send-term
+    element-copy-out-send-term
     add-send-term-2
-    shared-slice-read-send-term-2
+    element-copy-out-send-term-2
     send-term-requires
     array-write-before
     add-j
     loop-less
     loop-again
-    same-length
     returns)

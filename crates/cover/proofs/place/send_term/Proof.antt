@@ -3,7 +3,6 @@ use native.Mathlib.Omega.{arith}
 use mathlib.Core.Path.{refl, sym}
 use borrow.Author.Tests.{lt-ltb, le-ltb}
 use Prim.Native.Nat.{_<_}
-use lib.ListN.{length-set}
 use Rattle.cover.proofs.Sent.{put-new, put-old, put-constant}
 use Rattle.cover.proofs.place.send_term.Statement.{statement}
 use Rattle.cover.proofs.place.send_term.Tie as tie
@@ -11,16 +10,11 @@ use Rattle.cover.proofs.place.send_term.Tie as tie
 returns : tie.Need-returns
 returns c = (sym (put-constant _ _ _ (c .if1 .taken)), rw (le-ltb _ 96 (c .if1 .taken)) refl)
 
-slice-read-had : tie.Need-slice-read-had
-slice-read-had c = omega arith
+element-copy-out-had : tie.Need-element-copy-out-had
+element-copy-out-had c = omega arith
 
-slice-write-map : tie.Need-slice-write-map
-slice-write-map c = omega arith
-
-same-length : tie.Need-same-length
-same-length c =
-    let a = c .before .before .before .args in
-    length-set (a .map .now) (a .t) (a .u)
+element-write-map : tie.Need-element-write-map
+element-write-map c = omega arith
 
 returns-2 : tie.Need-returns-2
 returns-2 c =
@@ -39,8 +33,7 @@ send-term-spec =
     tie.close
     (tie.spec
     returns
-    slice-read-had
-    slice-write-map
-    same-length
+    element-copy-out-had
+    element-write-map
     returns-2
     returns-3)

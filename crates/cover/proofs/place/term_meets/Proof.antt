@@ -15,28 +15,28 @@ use Rattle.cover.proofs.place.term_meets.Tie as tie
 add-t : tie.Need-add-t
 add-t c = omega arith
 
-shared-slice-read-t : tie.Need-shared-slice-read-t
-shared-slice-read-t c = omega arith
+element-copy-out-t : tie.Need-element-copy-out-t
+element-copy-out-t c = omega arith
 
 add-u : tie.Need-add-u
 add-u c = omega arith
 
-shared-slice-read-u : tie.Need-shared-slice-read-u
-shared-slice-read-u c = omega arith
+element-copy-out-u : tie.Need-element-copy-out-u
+element-copy-out-u c = omega arith
 
 returns : tie.Need-returns
 returns c =
-    let k = c .before .before .before .before .before .before in
+    let k = c .before .before .before in
     sym (ap isSome (place-constant _ _ _ (k .pre .5 (c .if1 .taken))) ∙ some-if _ _)
 
 goes-to-requires : tie.Need-goes-to-requires
 goes-to-requires c κs =
-    let k = c .before .before .before .before .before .before in
+    let k = c .before .before .before in
     (omega arith, k .pre .0, omega arith, omega arith, k .pre .3)
 
 returns-2 : tie.Need-returns-2
 returns-2 c =
-    let k = c .before .before .before .before .before .before .before .before in
+    let k = c .before .before .before .before .before in
     let a = k .args in
     let W = sentTo (a .map .now) (a .first .now) (a .second .now) (a .i) (a .k) (a .j) in
     let v : getD (a .first .now) (a .i + a .j) 0 < 96 = omega arith in
@@ -45,7 +45,7 @@ returns-2 c =
 
 returns-3 : tie.Need-returns-3
 returns-3 c =
-    let k = c .before .before .before .before .before .before .before .before in
+    let k = c .before .before .before .before .before in
     let g = c .before .goes-to .ensures in
     let a = k .args in
     let W = sentTo (a .map .now) (a .first .now) (a .second .now) (a .i) (a .k) (a .j) in
@@ -58,9 +58,9 @@ term-meets-spec =
     tie.close
     (tie.spec
     add-t
-    shared-slice-read-t
+    element-copy-out-t
     add-u
-    shared-slice-read-u
+    element-copy-out-u
     returns
     goes-to-requires
     returns-2

@@ -34,25 +34,24 @@ abbrev μ-loop : tie.MeasureT-loop
 
 loop-holds : tie.Need-loop-holds Inv-loop μ-loop
 loop-holds c =
-    let s = c .before .before .before in
-    (omega arith, rw add-zero (s .pre .3), (λ n lt. absurd (omega arith)), rw (add-zero, add-zero, sent-none) refl)
+    (omega arith, rw add-zero (c .pre .3), (λ n lt. absurd (omega arith)), rw (add-zero, add-zero, sent-none) refl)
 
 add-if1 : tie.Need-add-if1 Inv-loop μ-loop
 add-if1 c = omega arith
 
-shared-slice-read-if1 : tie.Need-shared-slice-read-if1 Inv-loop μ-loop
-shared-slice-read-if1 c = omega arith
+element-copy-out-if1 : tie.Need-element-copy-out-if1 Inv-loop μ-loop
+element-copy-out-if1 c = omega arith
 
 add-result : tie.Need-add-result Inv-loop μ-loop
 add-result c = omega arith
 
-shared-slice-read-result : tie.Need-shared-slice-read-result Inv-loop μ-loop
-shared-slice-read-result c = omega arith
+element-copy-out-result : tie.Need-element-copy-out-result Inv-loop μ-loop
+element-copy-out-result c = omega arith
 
 returns : tie.Need-returns Inv-loop μ-loop
 returns c =
     let l = c .before .before .before .before in
-    let a = l .before .before .before .before .args in
+    let a = l .before .args in
     sym
     (ap isSome
     (l .loop .inv .3
@@ -62,13 +61,13 @@ returns c =
 add-if2 : tie.Need-add-if2 Inv-loop μ-loop
 add-if2 c = omega arith
 
-shared-slice-read-if2 : tie.Need-shared-slice-read-if2 Inv-loop μ-loop
-shared-slice-read-if2 c = omega arith
+element-copy-out-if2 : tie.Need-element-copy-out-if2 Inv-loop μ-loop
+element-copy-out-if2 c = omega arith
 
 returns-2 : tie.Need-returns-2 Inv-loop μ-loop
 returns-2 c =
     let l = c .before .before .before .before .before in
-    let a = l .before .before .before .before .args in
+    let a = l .before .args in
     sym
     (ap isSome
     (l .loop .inv .3
@@ -78,15 +77,15 @@ returns-2 c =
 term-meets-requires : tie.Need-term-meets-requires Inv-loop μ-loop
 term-meets-requires c κs =
     let l = c .before .before .before .before .before in
-    let a = l .before .before .before .before .args in
+    let a = l .before .args in
     let used = c .before .before .if1 .left in
     let u = used-more (a .first .now) (a .i) (l .loop .j) 6 (omega arith) stored (l .loop .inv .1) used in
-    (l .before .before .before .before .pre .0, omega arith, omega arith, l .loop .inv .2, c .if2 .left, term-constant stored _ (u .0))
+    (l .before .pre .0, omega arith, omega arith, l .loop .inv .2, c .if2 .left, term-constant stored _ (u .0))
 
 returns-3 : tie.Need-returns-3 Inv-loop μ-loop
 returns-3 c =
     let l = c .before .before .before .before .before .before .before in
-    let a = l .before .before .before .before .args in
+    let a = l .before .args in
     let m = c .before .term-meets .ensures in
     sym
     (ap isSome
@@ -104,8 +103,7 @@ loop-less c = omega arith
 loop-again : tie.Need-loop-again Inv-loop μ-loop
 loop-again c =
     let l = c .before .before .before .before .before .before .before in
-    let s = l .before .before .before .before in
-    let a = s .args in
+    let a = l .before .args in
     let m = c .before .term-meets .ensures in
     let used = c .before .before .before .before .if1 .left in
     let u = used-more (a .first .now) (a .i) (l .loop .j) 6 (omega arith) stored (l .loop .inv .1) used in (
@@ -113,7 +111,7 @@ loop-again c =
       u .1,
       one-used (a .second .now) (a .k) (l .loop .j) (l .loop .inv .2) (c .before .before .if2 .left),
       l .loop .inv .3
-          ∙ sent-next _ _ _ _ _ 6 (s .pre .0) _ (omega arith) (l .loop .inv .1) used (c .before .before .if2 .left)
+          ∙ sent-next _ _ _ _ _ 6 (l .before .pre .0) _ (omega arith) (l .loop .inv .1) used (c .before .before .if2 .left)
           (sym m ∙ not-false _ (c .if3 .left)),
     )
 
@@ -130,12 +128,12 @@ terms-meet-spec =
     μ-loop
     loop-holds
     add-if1
-    shared-slice-read-if1
+    element-copy-out-if1
     add-result
-    shared-slice-read-result
+    element-copy-out-result
     returns
     add-if2
-    shared-slice-read-if2
+    element-copy-out-if2
     returns-2
     term-meets-requires
     returns-3

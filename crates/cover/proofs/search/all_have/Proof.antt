@@ -4,7 +4,7 @@ use native.Mathlib.Omega.{arith}
 use mathlib.Core.Path.{_≡_, refl, sym, _∙_}
 use borrow.Author.Tests.{not-true, not-false}
 use Rattle.covering.specs.Lists.{all}
-use Rattle.covering.specs.Record.{stored, atomsAt}
+use Rattle.covering.specs.Record.{stored, atomsAt, questionOf}
 use Rattle.cover.specs.HeldMap.{partOf}
 use Rattle.covering.specs.Buffer.{AtomsIn}
 use Rattle.cover.specs.Candidates.{hasCandidate}
@@ -14,22 +14,22 @@ use Rattle.cover.proofs.search.all_have.Statement.{statement}
 use Rattle.cover.proofs.search.all_have.Tie as tie
 
 abbrev Inv-loop : tie.InvT-loop
-Inv-loop first second map i left w at₀ more₀ at more =
+Inv-loop first second map i left at₀ more₀ at more =
     AtomsIn stored first at more
-    × (all (hasCandidate (partOf map) (atomsAt stored second 1 w)) (atomsAt stored first i left)
-    ≡ all (hasCandidate (partOf map) (atomsAt stored second 1 w)) (atomsAt stored first at more))
+    × (all (hasCandidate (partOf map) (questionOf stored second)) (atomsAt stored first i left)
+    ≡ all (hasCandidate (partOf map) (questionOf stored second)) (atomsAt stored first at more))
 
 abbrev μ-loop : tie.MeasureT-loop
-μ-loop first second map i left w at₀ more₀ at more = more
+μ-loop first second map i left at₀ more₀ at more = more
 
 loop-holds : tie.Need-loop-holds Inv-loop μ-loop
-loop-holds c = (c .before .before .before .pre .1, refl)
+loop-holds c = (c .pre .1, refl)
 
 has-candidate-requires : tie.Need-has-candidate-requires Inv-loop μ-loop
 has-candidate-requires c κs =
     let l = c .before .loop in
-    let s = c .before .before .before .before .before in
-    (s .pre .0, omega arith, sound-more stored _ _ _ (omega arith) (l .inv .0 .sound) .0, omega arith)
+    let s = c .before .before in
+    (s .pre .0, omega arith, sound-more stored _ _ _ (omega arith) (l .inv .0 .sound) .0, s .pre .2)
 
 returns : tie.Need-returns Inv-loop μ-loop
 returns c =

@@ -1,12 +1,17 @@
 -- `cover::search::covers_sound` meets its contract: where first's relations are not among second's it does not cover;
 -- else a sound record counts all its atoms, and the search starts at the first, with no variable placed.
 use borrow.Author.Needs.{needs}
-use mathlib.Core.Path.{refl, sym, ap, _∙_}
+use mathlib.Core.Path.{_≡_, refl, sym, ap, ap₂, _∙_}
 use borrow.Author.Tests.{not-true}
+use lib.ListN.{length, replicate}
 use Rattle.covering.specs.Search.{findMap, firstMap, covers}
 use Rattle.covering.specs.Record.{stored, questionOf}
+use Rattle.covering.specs.Buffer.{recordRoom}
+use Rattle.covering.proofs.Places.{question-at}
 use Rattle.covering.proofs.Within.{sound-in}
 use Rattle.records.proofs.Among.{not-among}
+use Rattle.records.proofs.Copied.{copy-sound, copy-same}
+use Rattle.cover.specs.HeldMap.{partOf}
 use Rattle.cover.proofs.Maps.{said-yes, part-nowhere}
 use Rattle.cover.proofs.search.covers_sound.Statement.{statement}
 use Rattle.cover.proofs.search.covers_sound.Tie as tie
@@ -22,31 +27,36 @@ returns c =
     let among = sym (c .before .are-among .ensures) ∙ not-true _ (c .if1 .taken) in
     sym (not-among _ _ (c .before .before .relations .ensures) among)
 
-shared-slice-read-n : tie.Need-shared-slice-read-n
-shared-slice-read-n c = search needs
+copy-record-requires : tie.Need-copy-record-requires
+copy-record-requires c κs = search needs
 
-cast-n : tie.Need-cast-n
-cast-n c = search needs
+element-copy-out-place-next : tie.Need-element-copy-out-place-next
+element-copy-out-place-next c = search needs
 
-shared-slice-read-w : tie.Need-shared-slice-read-w
-shared-slice-read-w c = search needs
-
-cast-w : tie.Need-cast-w
-cast-w c = search needs
-
-slice-aggregate-place-next : tie.Need-slice-aggregate-place-next
-slice-aggregate-place-next c = search needs
+cast-place-next : tie.Need-cast-place-next
+cast-place-next c = search needs
 
 place-next-requires : tie.Need-place-next-requires
 place-next-requires c κs =
-    let k = c .before .before .before .before .before .before .before .before in
-    (refl, sound-in stored _ (k .pre .0), k .pre .1 .fits)
+    let d = c .before .before .before in
+    let s = d .before .before .before .before .before .before in
+    let long : length (s .args .first .now) ≡ recordRoom = search needs in
+    let held = copy-sound _ _ (s .pre .1) (d .copy-record .ensures) in
+    let room : length (d .copy-record .result) ≡ recordRoom = search needs in
+    (refl, sound-in stored _ (s .pre .0), rw (← room) (held .fits), long)
 
 returns-2 : tie.Need-returns-2
-unfolding covers firstMap questionOf
+unfolding covers firstMap
 returns-2 c =
-    let r = c .before .place-next in
-    said-yes _ _ _ (r .ensures .finds ∙ ap (findMap _ _) (part-nowhere 96))
+    let d = c .before .before .before .before in
+    let s = d .before .before .before .before .before .before in
+    let same = copy-same _ _ (s .pre .1) (d .copy-record .ensures) in
+    let F = s .args .first .now in
+    said-yes _ _ _
+    (c .place-next .ensures .finds
+    ∙ ap (λ A. findMap A (questionOf stored (d .copy-record .result)) (partOf (replicate 96 255)))
+    (sym (question-at stored F refl))
+    ∙ ap₂ (findMap (questionOf stored F)) same (part-nowhere 96))
 
 pub covers-sound-spec : {M : Type 1} → statement M
 covers-sound-spec =
@@ -55,10 +65,8 @@ covers-sound-spec =
     relations-requires
     are-among-requires
     returns
-    shared-slice-read-n
-    cast-n
-    shared-slice-read-w
-    cast-w
-    slice-aggregate-place-next
+    copy-record-requires
+    element-copy-out-place-next
+    cast-place-next
     place-next-requires
     returns-2)

@@ -11,13 +11,11 @@ returns : tie.Need-returns
 returns c = sym (and-no _ _ (ne-eqb _ 2 (c .if1 .taken)))
 
 leads-on-requires : tie.Need-leads-on-requires
-leads-on-requires c κs =
-    let s = c .before .before .before in
-    (s .pre .0, s .pre .1)
+leads-on-requires c κs = c .before .pre
 
 returns-2 : tie.Need-returns-2
 returns-2 c =
-    let n = c .before .before .before .before .args .tried in
+    let n = c .before .before .args .tried in
     let two : n ≡ 2 = omega (arith, c .before .if1 .left) in
     ap not (c .leads-on .ensures) ∙ sym (and-yes _ _ (eq-eqb n 2 two))
 

@@ -30,8 +30,7 @@ abbrev μ-loop : tie.MeasureT-loop
 
 loop-holds : tie.Need-loop-holds Inv-loop μ-loop
 loop-holds c =
-    let s = c .before .before in
-    (omega arith, rw add-zero (atom-used stored _ _ (in-rest stored _ _ _ (s .pre .1) .0)), rw add-zero refl)
+    (omega arith, rw add-zero (atom-used stored _ _ (in-rest stored _ _ _ (c .pre .1) .0)), rw add-zero refl)
 
 add-u : tie.Need-add-u Inv-loop μ-loop
 add-u c = omega arith
@@ -39,14 +38,14 @@ add-u c = omega arith
 add-u-2 : tie.Need-add-u-2 Inv-loop μ-loop
 add-u-2 c = omega arith
 
-shared-slice-read-u : tie.Need-shared-slice-read-u Inv-loop μ-loop
-shared-slice-read-u c = omega arith
+element-copy-out-u : tie.Need-element-copy-out-u Inv-loop μ-loop
+element-copy-out-u c = omega arith
 
 returns : tie.Need-returns Inv-loop μ-loop
 unfolding leadsOn atomAt
 returns c =
     let l = c .before .before .before in
-    let a = l .before .before .before .args in
+    let a = l .before .args in
     sym (l .loop .inv .2 ∙ args-stop _ (a .first .now) (a .i + 1) (l .loop .j) 6 (omega arith) (c .if1 .taken))
 
 add-place-leads : tie.Need-add-place-leads Inv-loop μ-loop
@@ -55,7 +54,7 @@ add-place-leads c = omega arith
 place-leads-requires : tie.Need-place-leads-requires Inv-loop μ-loop
 place-leads-requires c κs =
     let l = c .before .before .before in
-    let s = l .before .before .before in
+    let s = l .before in
     let u = used-more (s .args .first .now) (s .args .i + 1) (l .loop .j) 6 (omega arith) stored (l .loop .inv .1) (c .if1 .left) in
     (s .pre .0, omega arith, term-constant stored _ (u .0))
 
@@ -63,7 +62,7 @@ returns-2 : tie.Need-returns-2 Inv-loop μ-loop
 unfolding leadsOn atomAt
 returns-2 c =
     let l = c .before .before .before .before .before in
-    let a = l .before .before .before .args in
+    let a = l .before .args in
     sym
     (l .loop .inv .2
     ∙ args-hit _ (a .first .now) (a .i + 1) (l .loop .j) 6 (omega arith) (c .before .before .if1 .left)
@@ -78,7 +77,7 @@ loop-less c = omega arith
 loop-again : tie.Need-loop-again Inv-loop μ-loop
 loop-again c =
     let l = c .before .before .before .before .before in
-    let a = l .before .before .before .args in
+    let a = l .before .args in
     let used = c .before .before .if1 .left in
     let u = used-more (a .first .now) (a .i + 1) (l .loop .j) 6 (omega arith) stored (l .loop .inv .1) used in (
       omega arith,
@@ -103,7 +102,7 @@ leads-on-spec =
     loop-holds
     add-u
     add-u-2
-    shared-slice-read-u
+    element-copy-out-u
     returns
     add-place-leads
     place-leads-requires

@@ -30,8 +30,8 @@ add-u c = omega arith
 add-u-2 : tie.Need-add-u-2 Inv-loop μ-loop
 add-u-2 c = omega arith
 
-shared-slice-read-u : tie.Need-shared-slice-read-u Inv-loop μ-loop
-shared-slice-read-u c = omega arith
+element-copy-out-u : tie.Need-element-copy-out-u Inv-loop μ-loop
+element-copy-out-u c = omega arith
 
 returns : tie.Need-returns Inv-loop μ-loop
 returns c =
@@ -79,7 +79,7 @@ stands-at-spec =
     loop-holds
     add-u
     add-u-2
-    shared-slice-read-u
+    element-copy-out-u
     returns
     returns-2
     add-j

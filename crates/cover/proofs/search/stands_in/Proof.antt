@@ -3,17 +3,17 @@
 use native.Mathlib.Omega.{arith}
 use mathlib.Core.Path.{_≡_, refl, sym, _∙_}
 use Prim.Native.Nat.{_+_, _*_, _≤_}
-use lib.ListN.{length}
 use Rattle.covering.specs.Lists.{any}
 use Rattle.covering.specs.Term.{terms, eqTerm}
 use Rattle.covering.specs.Record.{stored, termOf, atomsAt}
+use Rattle.covering.specs.Buffer.{recordRoom}
 use Rattle.cover.proofs.Leads.{terms-none, terms-hit, terms-miss}
 use Rattle.cover.proofs.search.stands_in.Statement.{statement}
 use Rattle.cover.proofs.search.stands_in.Tie as tie
 
 abbrev Inv-loop : tie.InvT-loop
 Inv-loop first i left t at₀ more₀ at more =
-    (at + more * 7 ≤ length first)
+    (at + more * 7 ≤ recordRoom)
     × (any (eqTerm (termOf t)) (terms (atomsAt stored first i left))
     ≡ any (eqTerm (termOf t)) (terms (atomsAt stored first at more)))
 
@@ -24,7 +24,7 @@ loop-holds : tie.Need-loop-holds Inv-loop μ-loop
 loop-holds c = (omega arith, refl)
 
 stands-at-requires : tie.Need-stands-at-requires Inv-loop μ-loop
-stands-at-requires c κs = (omega arith, c .before .before .before .pre .1)
+stands-at-requires c κs = (omega arith, c .before .before .pre .1)
 
 returns : tie.Need-returns Inv-loop μ-loop
 returns c =

@@ -13,7 +13,6 @@ use Rattle.covering.specs.Search.{covers}
 use Rattle.covering.specs.Record.{stored, questionOf, SoundRecord}
 use Rattle.covering.proofs.Tests.{not-true, not-false}
 use Rattle.covering.specs.Rule.{Rule}
-use Rattle.covering.specs.Buffer.{recordRoom}
 use Rattle.covering.proofs.Lengths.{question-count}
 use Rattle.reading.specs.Header.{rules as rulesOf}
 use Rattle.reading.specs.Book.{bookOf, ruleAt, ruleStart}
@@ -31,7 +30,7 @@ use Rattle.exploration.specs.Held.{heldFrom}
 use Rattle.explore.specs.Skipping.{GoesOn}
 use Rattle.explore.proofs.Among.{rule-here}
 use Rattle.explore.proofs.Coming.{coming, Given, given-none, given-some}
-use Rattle.explore.proofs.Records.{rewriting-sound, rewriting-question, rewriting-long, member-sound}
+use Rattle.explore.proofs.Records.{rewriting-sound, rewriting-question, member-sound}
 use Rattle.lister.proofs.FromBook.{member-in}
 use Rattle.explore.proofs.Onward.{Onward, onward-first, onward-done, onward-dropped, onward-refused}
 use Rattle.explore.proofs.Onward.{onward-stopped, onward-appended, onward-passed, rewriting-in, fewer, fewer-passed}
@@ -81,12 +80,6 @@ sound e =
     let b = start (turn e) in
     subst (SoundRecord stored) (sym (given e .bytes))
     (rewriting-sound (b .args .book .now) (b .pre .0) _ (b .pre .3 .fits) (b .pre .3 .shaped) _ (listed e))
-
-length-is : (e : tie.Else1 Inv-loop μ-loop) → length (record-of e) ≡ recordRoom
-length-is e =
-    let b = start (turn e) in
-    ap length (given e .bytes)
-    ∙ rewriting-long (b .args .book .now) (b .pre .0) _ (b .pre .3 .fits) (b .pre .3 .shaped) _ (listed e)
 
 question : (e : tie.Else1 Inv-loop μ-loop) → questionOf stored (record-of e) ≡ given e .rewriting
 question e =
@@ -153,9 +146,6 @@ returns c =
 
 add-from : tie.Need-add-from Inv-loop μ-loop
 add-from c = omega (arith, c .before .before .before .next-rewriting .ensures .1)
-
-slice-aggregate-admit : tie.Need-slice-aggregate-admit Inv-loop μ-loop
-slice-aggregate-admit c = sym (length-is (c .before .before .before))
 
 admit-requires : tie.Need-admit-requires Inv-loop μ-loop
 admit-requires c κs =
@@ -240,9 +230,6 @@ loop-again c =
 enum-known-fate : tie.Need-enum-known-fate Inv-loop μ-loop
 enum-known-fate c = search needs
 
-slice-aggregate-covers-sound : tie.Need-slice-aggregate-covers-sound Inv-loop μ-loop
-slice-aggregate-covers-sound c = sym (length-is (having (c .before .before .before .before .before .before)))
-
 covers-sound-requires : tie.Need-covers-sound-requires Inv-loop μ-loop
 covers-sound-requires c κs =
     let e = having (c .before .before .before .before .before .before) in
@@ -300,14 +287,12 @@ explore-spec =
     same-length
     returns
     add-from
-    slice-aggregate-admit
     admit-requires
     enum-told
     after-drop-requires
     loop-less
     loop-again
     enum-known-fate
-    slice-aggregate-covers-sound
     covers-sound-requires
     same-length-2
     returns-2

@@ -12,9 +12,6 @@ prefix-rewriting-requires c κs = search needs
 returns : tie.Need-returns
 returns c = unmet-covered (c .before .before .prefix-rewriting .ensures) _ (not-true _ (c .if1 .taken))
 
-slice-aggregate-is-covered : tie.Need-slice-aggregate-is-covered
-slice-aggregate-is-covered c = search needs
-
 is-covered-requires : tie.Need-is-covered-requires
 is-covered-requires c κs =
     let e = c .before .before in
@@ -28,4 +25,4 @@ returns-2 c =
 
 pub prefix-covered-spec : {M : Type 1} → statement M
 prefix-covered-spec =
-    tie.close (tie.spec prefix-rewriting-requires returns slice-aggregate-is-covered is-covered-requires returns-2)
+    tie.close (tie.spec prefix-rewriting-requires returns is-covered-requires returns-2)

@@ -1,4 +1,4 @@
--- `explore::taking_up::copy_record` meets its contract. The loop's invariant: the record's bytes passed are copied. The
+-- `records::copying::copy_record` meets its contract. The loop's invariant: the record's bytes passed are copied. The
 -- measure is the number of bytes left.
 use borrow.Author.Needs.{needs}
 use native.Mathlib.Omega.{arith}
@@ -13,8 +13,8 @@ use Rattle.covering.specs.Buffer.{recordRoom}
 use Rattle.covering.proofs.RoundTrip.{stored-apart}
 use Rattle.covering.proofs.Padded.{begun-held}
 use Rattle.covering.proofs.Slices.{paste-more}
-use Rattle.explore.proofs.taking_up.copy_record.Statement.{statement}
-use Rattle.explore.proofs.taking_up.copy_record.Tie as tie
+use Rattle.records.proofs.copying.copy_record.Statement.{statement}
+use Rattle.records.proofs.copying.copy_record.Tie as tie
 
 abbrev Inv-loop : tie.InvT-loop
 Inv-loop member width copy₀ i₀ copy i =
