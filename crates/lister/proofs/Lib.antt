@@ -1,6 +1,7 @@
 -- The laws that the lister's functions cite.
 
 -- the builder and its table do what the definitions say
+pub mod Counts
 pub mod NumberFrom
 pub mod Build
 pub mod Carried
@@ -11,9 +12,11 @@ pub mod Prefixes
 pub mod Halves
 pub mod RewritingBytes
 pub mod LeftAtoms
+pub mod LeftByBits
 pub mod Asked
 pub mod Pruned
 pub mod Answers
+pub mod Digits
 pub mod FirstDigits
 -- a sound book gives what the lister asks for; any two results of a contract are equal
 pub mod FromBook
