@@ -25,7 +25,7 @@ pub fn explore(
     rules: usize,
     starts: &[usize],
     heads: &[u64],
-    member: &[u8],
+    member: &[u8; RECORD],
     work: &mut [u8],
     filled: Extent,
     answers: u8,

@@ -44,7 +44,7 @@ pub fn next_by(
     book: &[u8],
     start: usize,
     head: u64,
-    member: &[u8],
+    member: &[u8; RECORD],
     all: u64,
     from: usize,
     out: &mut [u8; RECORD],

@@ -40,7 +40,7 @@ pub fn next_rewriting(
     rules: usize,
     starts: &[usize],
     heads: &[u64],
-    member: &[u8],
+    member: &[u8; RECORD],
     k: usize,
     from: usize,
     out: &mut [u8; RECORD],

@@ -1,7 +1,7 @@
 -- What the builder's two functions answer: one law for each way through their code. The arguments of the call that a
 -- law is about are read off what the call was asked (Asks, Tries) or has reached. Assumes nothing.
 use mathlib.Core.Path.{_≡_, refl, sym, _∙_, ap, subst}
-use mathlib.Core.Bool.{Bool, true, false, not, _||_, true≢false}
+use mathlib.Core.Bool.{Bool, true, false}
 use mathlib.Core.List.{List, [], _∷_, _++_}
 use mathlib.Core.Option.{Option, none, some}
 use Prim.Native.Nat.{ℕ, suc, _+_, _*_, _-_, _≤_, _<_}
@@ -19,38 +19,46 @@ use Rattle.unify.specs.Table.{tabled}
 use Rattle.unify.specs.InBytes.{ruleIn, classesOf, merged}
 use Rattle.unify.proofs.TableBytes.{merged-yes, merged-no}
 use Rattle.unify.proofs.Joins.{pairs-apart}
-use Rattle.lister.specs.declared.Found.{Found}
 use Rattle.lister.specs.Build.{first, firstByDigit, since, tableBuilder}
-use Rattle.lister.specs.Listing.{ruleOf, foundOf, FoundIs, Asks}
+use Rattle.lister.specs.Listing.{ruleOf, toldOf, FoundIs, ToldIs, Asks}
 use Rattle.lister.proofs.Prefixes.{digits-none, digits-hit, digits-miss, head-pairs, digit-skips, prefix-digits}
 use Rattle.lister.proofs.Prefixes.{whole-sent, whole-unsent}
 use Rattle.lister.proofs.Asked.{Tries, meeting, left-holds}
-use Rattle.lister.proofs.Pruned.{asked-invalid}
 
 -- an answer to one thing that is sought is an answer to another that is the same
-pub told-same : {o o′ : Option (ℕ × Question)} {X Y : List ℕ} {r : Found} → o ≡ o′ → FoundIs o X r Y → FoundIs o′ X r Y
-told-same {X = X} {Y = Y} {r = r} e f = subst (λ (o : Option (ℕ × Question)). FoundIs o X r Y) e f
+pub told-same : {o o′ : Option (ℕ × Question)} {X Y : List ℕ} {r : ℕ} → o ≡ o′ → ToldIs o X r Y → ToldIs o′ X r Y
+told-same {X = X} {Y = Y} {r = r} e f = subst (λ (o : Option (ℕ × Question)). ToldIs o X r Y) e f
 
 -- nothing is there to be found, and the room is as it came
-pub told-none : {o : Option (ℕ × Question)} {X : List ℕ} {r : Found} → r ≡ foundOf none → o ≡ none → FoundIs o X r X
-told-none e n = told-same (sym n) (record { answer = e; room = refl })
+pub told-none : {o : Option (ℕ × Question)} {X : List ℕ} → o ≡ none → ToldIs o X 0 X
+told-none n = told-same (sym n) (record { answer = refl; room = refl })
+
+-- the number, as `next` tells it
+pub found-none : (o : Option (ℕ × Question)) {X Y : List ℕ} {r : ℕ} → ToldIs o X r Y → r ≡ 0
+    → FoundIs o X (record { found = false; choice = 0 }) Y
+found-none none t e = record { answer = refl; room = t .room }
+found-none (some x) t e = absurd (omega (arith, t .answer))
+
+pub found-some : (o : Option (ℕ × Question)) {X Y : List ℕ} {r : ℕ} → ToldIs o X r Y → (r ≡ 0 → ⊥)
+    → FoundIs o X (record { found = true; choice = r - 1 }) Y
+found-some none t e = absurd (e (t .answer))
+found-some (some x) {r = r} t e =
+    let c : r - 1 ≡ x .0 = omega (arith, t .answer) in
+    record { answer = ap (λ (n : ℕ). record { found = true; choice = n }) c; room = t .room }
 
 -- an answer that says found, or not, tells what it is the answer to
-module _ {X Y : List ℕ} {r : Found} where
-  found-first : (f : ℕ → Option (ℕ × Question)) (d n : ℕ) → 0 < n → FoundIs (f d) X r Y → r .found ≡ true
-      → FoundIs (firstOf f (numbers d n)) X r Y
-  found-first f d n h e t = go (f d) refl (sym (ap (λ x. x .found) (e .answer)) ∙ t)
+module _ {X Y : List ℕ} {r : ℕ} where
+  found-first : (f : ℕ → Option (ℕ × Question)) (d n : ℕ) → 0 < n → ToldIs (f d) X r Y → (r ≡ 0 → ⊥)
+      → ToldIs (firstOf f (numbers d n)) X r Y
+  found-first f d n h e t = go (f d) refl (e .answer)
     where
-      go : (o : Option (ℕ × Question)) → f d ≡ o → foundOf o .found ≡ true → FoundIs (firstOf f (numbers d n)) X r Y
-      go none q u = let z : _≡_ {A = ℕ} 0 1 = cc in absurd (omega arith)
+      go : (o : Option (ℕ × Question)) → f d ≡ o → r ≡ toldOf o → ToldIs (firstOf f (numbers d n)) X r Y
+      go none q u = absurd (t u)
       go (some x) q u = told-same (q ∙ sym (digits-hit f d n h q)) e
 
-  missed-none : (o : Option (ℕ × Question)) → FoundIs o X r Y → r .found ≡ false → (o ≡ none) × (Y ≡ X)
+  missed-none : (o : Option (ℕ × Question)) → ToldIs o X r Y → r ≡ 0 → (o ≡ none) × (Y ≡ X)
   missed-none none e t = (refl, e .room)
-  missed-none (some x) e t =
-      let u : true ≡ false = sym (ap (λ x. x .found) (e .answer)) ∙ t in
-      let z : _≡_ {A = ℕ} 0 1 = cc in
-      absurd (omega arith)
+  missed-none (some x) e t = absurd (omega (arith, e .answer))
 
 pub heads-are : (B : List ℕ) (p : Parts) → length (ruleOf B p .head) ≡ p .heads
 unfolding ruleIn
@@ -74,23 +82,6 @@ module _ (Q B : List ℕ) (p : Parts) (from i more number : ℕ) (sent : Bool) (
     pub all : heads ≡ p .heads
     pub within : d ≤ heads + 1
     pub rest : sought ≡ firstOf soughtBy (numbers d (suc heads - d))
-
--- `build` at a prefix, of which was asked whether it can be valid
-module _ {Q B : List ℕ} {p : Parts} {i more number : ℕ} {sent : Bool} {A table : List ℕ}
-    (k : Asks Q B p i more number sent A table) (from : ℕ) (can : Bool)
-    (asked : can ≡ (not sent || valid (tabled (classesOf table)) (questionOf stored A) (move 48 (ruleOf B p)))) where
-  abbrev is-valid : Bool
-  is-valid = valid (tabled (classesOf table)) (questionOf stored A) (move 48 (ruleOf B p))
-
-  pub sought-invalid : can ≡ false → sought Q B p from i more number sent A table ≡ none
-  sought-invalid cannot = asked-invalid k from (go (not sent) is-valid (sym asked ∙ cannot))
-    where
-      go : (a v : Bool) → (a || v) ≡ false → v ≡ false
-      go true v e = absurd (true≢false e)
-      go false v e = e
-
-  pub sent-valid : can ≡ true → sent ≡ true → is-valid ≡ true
-  sent-valid it-can t = sym (ap (λ (b : Bool). not b || is-valid) t) ∙ sym asked ∙ it-can
 
 -- `build` at a whole choice
 module _ {Q B : List ℕ} {p : Parts} {i more number : ℕ} {sent : Bool} {A table : List ℕ}
@@ -123,15 +114,15 @@ module _ {Q B : List ℕ} {p : Parts} {from i more number : ℕ} {sent : Bool} {
     pub reached-last : heads < d → sought Q B p from i more number sent A table ≡ none
     reached-last h = at .rest ∙ digits-none _ d (suc heads - d) (omega arith)
 
-    module _ (h : d ≤ heads) {X Y : List ℕ} {r : Found}
-        (e : FoundIs (soughtBy Q B p from i more number sent A table d) X r Y) where
+    module _ (h : d ≤ heads) {X Y : List ℕ} {r : ℕ}
+        (e : ToldIs (soughtBy Q B p from i more number sent A table d) X r Y) where
       abbrev f : ℕ → Option (ℕ × Question)
       f = soughtBy Q B p from i more number sent A table
 
-      pub reached-found : r .found ≡ true → FoundIs (sought Q B p from i more number sent A table) X r Y
+      pub reached-found : (r ≡ 0 → ⊥) → ToldIs (sought Q B p from i more number sent A table) X r Y
       reached-found t = told-same (sym (at .rest)) (found-first f d (suc heads - d) (omega arith) e t)
 
-      pub reached-next : r .found ≡ false → Reached Q B p from i more number sent A table heads (d + 1) × (Y ≡ X)
+      pub reached-next : r ≡ 0 → Reached Q B p from i more number sent A table heads (d + 1) × (Y ≡ X)
       reached-next t =
           let missed = missed-none (f d) e t in (
             record {

@@ -1,6 +1,7 @@
 -- The laws that the lister's functions cite.
 
 -- the builder and its table do what the definitions say
+pub mod Counts
 pub mod NumberFrom
 pub mod Build
 pub mod Carried
@@ -11,10 +12,12 @@ pub mod Prefixes
 pub mod Halves
 pub mod RewritingBytes
 pub mod LeftAtoms
+pub mod LeftByBits
 pub mod Asked
 pub mod Pruned
 pub mod Stuck
 pub mod Answers
+pub mod Digits
 pub mod FirstDigits
 pub mod Unmet
 -- a sound book gives what the lister asks for; any two results of a contract are equal

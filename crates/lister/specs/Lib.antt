@@ -2,5 +2,6 @@
 -- builder, and how the code holds what is asked and answered. What `next` gives is `unification`'s.
 pub mod Counts
 pub mod Build
+pub mod Leaving
 pub mod Listing
 pub mod FirstDigits

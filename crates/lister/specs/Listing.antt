@@ -14,9 +14,11 @@ use Rattle.covering.specs.Buffer.{heldIn, AtomsIn, recordRoom}
 use Rattle.covering.specs.Rule.{Rule}
 use Rattle.book.specs.declared.Parts.{Parts}
 use Rattle.lister.specs.declared.Found.{Found}
-use Rattle.lister.specs.Counts.{mostChoices}
+use Rattle.lister.specs.Counts.{mostChoices, CountsFor}
+use Rattle.lister.specs.Leaving.{leftBy, anySent}
 use Rattle.unification.specs.Choice.{count}
 use Rattle.unify.specs.InBytes.{inBook, ruleIn, classesOf}
+use Rattle.unify.specs.Unknowns.{hasUnknowns}
 
 -- the rule of these parts
 abbrev pub ruleOf : List ℕ → Parts → Rule
@@ -35,6 +37,15 @@ roomOf (some e) X = heldIn stored recordRoom (e .1)
 -- the answer r and the room Y tell what was sought
 pub record FoundIs (sought : Option (ℕ × Question)) (X : List ℕ) (r : Found) (Y : List ℕ) : Type 0 where
   pub answer : r ≡ foundOf sought
+  pub room : Y ≡ roomOf sought X
+
+-- the same answer as the builder's functions give it, one number: 0 for nothing, else one more than the choice's
+abbrev pub toldOf : Option (ℕ × Question) → ℕ
+toldOf none = 0
+toldOf (some e) = suc (e .0)
+
+pub record ToldIs (sought : Option (ℕ × Question)) (X : List ℕ) (r : ℕ) (Y : List ℕ) : Type 0 where
+  pub answer : r ≡ toldOf sought
   pub room : Y ≡ roomOf sought X
 
 -- a rule of a sound book: sound atoms, one to four in its head and at most four in its body
@@ -88,3 +99,14 @@ pub record Asks (Q B : List ℕ) (p : Parts) (i more number : ℕ) (sent : Bool)
   pub small : suc number * count (p .heads) more ≤ mostChoices
   pub size : length table ≡ 96
   pub classes : ClassesFit table
+
+-- the same as the code holds it: the atoms passed, those of them that are sent by a bit for each, the row of counts, and
+-- whether the rule has existential variables
+pub record Builds (Q B : List ℕ) (p : Parts) (row : List ℕ) (unknowns : Bool) (passed more number sent : ℕ) (table : List ℕ)
+    : Type 0 where
+  pub asks : Asks Q B p (1 + passed * 7) more number (anySent sent) (leftBy Q passed sent) table
+  pub question : QuestionIn Q
+  pub all : passed + more ≡ getD Q 0 0
+  pub bits : sent ≤ number
+  pub counts : CountsFor (p .heads) row
+  pub told : unknowns ≡ hasUnknowns (ruleOf B p)

@@ -4,6 +4,7 @@ use covering::RECORD;
 
 mod builder;
 mod classes;
+mod leaving;
 mod powers;
 mod prefix;
 mod writing;

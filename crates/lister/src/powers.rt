@@ -3,6 +3,7 @@
 ghost use mathlib.Core.Path.{_≡_};
 ghost use Prim.Native.Nat.{_≤_};
 ghost use Rattle.unification.specs.Choice.{count};
+ghost use Rattle.lister.specs.Counts.{CountsFor};
 
 const COUNTS: [[usize; 9]; 4] = [
     [1, 2, 4, 8, 16, 32, 64, 128, 256],
@@ -17,4 +18,12 @@ pub fn choice_count(h: usize, n: usize) -> usize
     ensures { λ r. ⌜ r ≡ count h n ⌝ }
 {
     COUNTS[h - 1][n]
+}
+
+// The row for h head atoms: how many choices there are for each number of atoms. It is looked up once for a whole search.
+pub fn choice_counts(h: usize) -> [usize; 9]
+    requires { ⌜ (1 ≤ h) × (h ≤ 4) ⌝ }
+    ensures { λ r. ⌜ CountsFor h r ⌝ }
+{
+    COUNTS[h - 1]
 }

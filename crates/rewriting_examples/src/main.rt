@@ -136,7 +136,7 @@ fn show(choice: usize, record: &[u8; RECORD]) {
 }
 
 // The question's rewritings by a rule, choices ascending.
-fn list(question: &[u8], book: &[u8], rule: Parts)
+fn list(question: &[u8; RECORD], book: &[u8], rule: Parts)
     requires { ⌜ QuestionIn (now question) × RuleIn (now book) rule ⌝ }
 {
     let mut from: usize = 0;

@@ -25,7 +25,7 @@ within : (c : tie.After-show Inv-loop μ-loop)
     × (c .before .before .before .next .result .choice < mostChoices)
 within c =
     let n = c .before .before .before in
-    let s = n .before .before .before .before .before .before in
+    let s = n .before .before .before .before .before in
     found-within (s .args .question .now) (s .args .book .now) (s .args .rule) (s .pre .0) (s .pre .1) _ (n .next .result)
     (n .next .ensures .answer) (was-found _ (c .before .before .if1 .left))
 

@@ -36,9 +36,6 @@ starts-requires c κs = c .before .before .before .before .pre
 question-requires : tie.Need-question-requires
 question-requires c κs = c .before .before .before .before .before .pre
 
-slice-aggregate-list : tie.Need-slice-aggregate-list
-slice-aggregate-list c = search needs
-
 array-read-rule-at : tie.Need-array-read-rule-at
 array-read-rule-at c = search needs
 
@@ -78,7 +75,6 @@ tell-new-spec =
     returns
     starts-requires
     question-requires
-    slice-aggregate-list
     array-read-rule-at
     rule-at-requires
     list-requires

@@ -51,7 +51,7 @@ abbrev turn : tie.Else1 Inv-loop μ-loop → tie.At-loop Inv-loop μ-loop
 turn e = e .before .before .before .before
 
 abbrev start : tie.At-loop Inv-loop μ-loop → tie.Start Inv-loop μ-loop
-start l = l .before .before .before .before .before .before .before
+start l = l .before .before .before .before .before .before
 
 abbrev having : tie.After-admit Inv-loop μ-loop → tie.Else1 Inv-loop μ-loop
 having x = x .before .before .before .before
@@ -118,7 +118,7 @@ fresh-requires c κs = search needs
 
 loop-holds : tie.Need-loop-holds Inv-loop μ-loop
 loop-holds c =
-    let b = c .before .before .before .before .before .before in
+    let b = c .before .before .before .before .before in
     onward-first (limitsOf (b .args .book .now)) (bookOf (b .args .book .now) .rules) (questionOf stored (b .args .member .now)) _ _ (b .pre .4)
 
 next-rewriting-requires : tie.Need-next-rewriting-requires Inv-loop μ-loop
@@ -191,7 +191,7 @@ onward t =
 
 after-drop-requires : tie.Need-after-drop-requires Inv-loop μ-loop
 after-drop-requires c κs =
-    let t = c .before in
+    let t = c .before .before in
     let e = having (t .before .before .before .before) in
     let b = start (turn e) in
     let M = b .pre .3 in (
@@ -211,13 +211,13 @@ after-drop-requires c κs =
 loop-less : tie.Need-loop-less Inv-loop μ-loop
 loop-less c =
     let d = c .before in
-    let e = having (d .before .before .before .before .before .before) in
+    let e = having (d .before .before .before .before .before .before .before) in
     fewer-passed _ _ _ _ _ (turn e .loop .inv) (given e) (d .after-drop .ensures .later)
 
 loop-again : tie.Need-loop-again Inv-loop μ-loop
 loop-again c =
     let d = c .before in
-    let t = d .before .before in
+    let t = d .before .before .before in
     let x = t .before .before .before .before in
     let e = having x in
     onward-passed _ _ _ _ _ (turn e .loop .inv) (given e) (onward t)
@@ -232,7 +232,7 @@ enum-known-fate c = search needs
 
 covers-sound-requires : tie.Need-covers-sound-requires Inv-loop μ-loop
 covers-sound-requires c κs =
-    let e = having (c .before .before .before .before .before .before) in
+    let e = having (c .before .before .before .before .before .before .before) in
     let b = start (turn e) in (
       sound e,
       subst (SoundRecord stored) (sym (b .pre .3 .holds)) (member-sound (b .args .book .now) (b .pre .0) _ (b .pre .3 .fits)),
@@ -240,24 +240,24 @@ covers-sound-requires c κs =
 
 same-length-2 : tie.Need-same-length-2 Inv-loop μ-loop
 same-length-2 c =
-    let b = start (turn (having (c .before .before .before .before .before .before .before .before))) in
-    appended (c .before .before .before) .1 .held .size ∙ sym (b .pre .4 .held .size)
+    let b = start (turn (having (c .before .before .before .before .before .before .before .before .before))) in
+    appended (c .before .before .before .before) .1 .held .size ∙ sym (b .pre .4 .held .size)
 
 returns-2 : tie.Need-returns-2 Inv-loop μ-loop
 returns-2 c =
-    let e = having (c .before .before .before .before .before .before .before .before) in
-    onward-stopped _ _ _ _ _ (turn e .loop .inv) (given e) _ _ (appended (c .before .before .before))
+    let e = having (c .before .before .before .before .before .before .before .before .before) in
+    onward-stopped _ _ _ _ _ (turn e .loop .inv) (given e) _ _ (appended (c .before .before .before .before))
     (covers-is e _ (c .before .covers-sound .ensures) ∙ c .if2 .taken)
 
 loop-less-2 : tie.Need-loop-less-2 Inv-loop μ-loop
 loop-less-2 c =
-    let e = having (c .before .before .before .before .before .before .before .before) in
+    let e = having (c .before .before .before .before .before .before .before .before .before) in
     fewer _ _ _ _ _ (turn e .loop .inv) (given e)
 
 loop-again-2 : tie.Need-loop-again-2 Inv-loop μ-loop
 loop-again-2 c =
-    let e = having (c .before .before .before .before .before .before .before .before) in
-    onward-appended _ _ _ _ _ (turn e .loop .inv) (given e) _ _ (appended (c .before .before .before))
+    let e = having (c .before .before .before .before .before .before .before .before .before) in
+    onward-appended _ _ _ _ _ (turn e .loop .inv) (given e) _ _ (appended (c .before .before .before .before))
     (covers-is e _ (c .before .covers-sound .ensures) ∙ c .if2 .left)
 
 enum-known-fate-2 : tie.Need-enum-known-fate-2 Inv-loop μ-loop

@@ -10,21 +10,21 @@ use Rattle.explore.proofs.related.next_by.Tie as tie
 
 returns : tie.Need-returns
 returns c =
-    let b = c .before .before .before in
+    let b = c .before .before in
     let p = b .pre in
     (none-tried (b .args .book .now) (p .1) _ (questionOf stored (b .args .member .now)) (p .4) (p .5) (c .if1 .taken) _ _, search needs)
 
 rule-at-requires : tie.Need-rule-at-requires
-rule-at-requires c κs = let p = c .before .before .before .pre in (p .0, p .1)
+rule-at-requires c κs = let p = c .before .before .pre in (p .0, p .1)
 
 next-requires : tie.Need-next-requires
 next-requires c κs =
-    let b = c .before .before .before .before .before in
+    let b = c .before .before .before .before in
     (b .pre .3, subst (RuleIn (b .args .book .now)) (sym (c .before .rule-at .ensures)) (b .pre .2))
 
 returns-2 : tie.Need-returns-2
 returns-2 c =
-    let b = c .before .before .before .before .before .before in
+    let b = c .before .before .before .before .before in
     let B = b .args .book .now in
     let parts = c .before .before .rule-at .ensures in
     let rule = subst (RuleIn B) (sym parts) (b .pre .2) in (

@@ -129,9 +129,6 @@ slice-aggregate-explore c = search needs
 slice-aggregate-explore-2 : tie.Need-slice-aggregate-explore-2 Inv-loop μ-loop
 slice-aggregate-explore-2 c = search needs
 
-slice-aggregate-explore-3 : tie.Need-slice-aggregate-explore-3 Inv-loop μ-loop
-slice-aggregate-explore-3 c = search needs
-
 explore-requires : tie.Need-explore-requires Inv-loop μ-loop
 explore-requires c κs =
     let e = c .before .before .before .before .before .before .before in
@@ -209,7 +206,6 @@ explore-all-spec =
     add-filled
     slice-aggregate-explore
     slice-aggregate-explore-2
-    slice-aggregate-explore-3
     explore-requires
     enum-known-explored
     loop-less

@@ -1,25 +1,30 @@
--- `lister::builder::next` meets its contract: the builder starts with no atom left, none sent and each variable in a
+-- `lister::builder::next` meets its contract: the builder starts with no atom passed, none sent and each variable in a
 -- class of its own.
 use borrow.Author.Needs.{needs}
 use native.Mathlib.Omega.{arith}
-use Rattle.lister.proofs.Asked.{start-asks, start-next}
-use Rattle.lister.proofs.Answers.{told-same}
+use mathlib.Core.Path.{refl}
+use Rattle.lister.proofs.Asked.{start-next}
+use Rattle.lister.proofs.Answers.{told-same, found-none, found-some}
+use Rattle.lister.proofs.Digits.{start-builds}
+use Rattle.lister.proofs.LeftByBits.{none-left}
 use Rattle.lister.proofs.builder.next.Statement.{statement}
 use Rattle.lister.proofs.builder.next.Tie as tie
 
-shared-slice-read-n : tie.Need-shared-slice-read-n
-shared-slice-read-n c = omega (arith, c .before .before .before .pre .0 .atoms .fits)
+element-copy-out-n : tie.Need-element-copy-out-n
+element-copy-out-n c = search needs
 
 cast-n : tie.Need-cast-n
-cast-n c = omega (arith, c .shared-slice-known3 .given 0)
+cast-n c = omega (arith, c .before .before .pre .0 .few)
 
 has-unknowns-requires : tie.Need-has-unknowns-requires
 has-unknowns-requires c κs =
-    let start = c .before .before .before in
+    let start = c .before .before in
     (start .pre .1 .body .fits, start .pre .1 .head .fits)
 
-no-atoms-requires : tie.Need-no-atoms-requires
-no-atoms-requires c κs = search needs
+choice-counts-requires : tie.Need-choice-counts-requires
+choice-counts-requires c κs =
+    let r = c .before .before .before .pre .1 in
+    (r .some-head, r .few-head)
 
 all-apart-requires : tie.Need-all-apart-requires
 all-apart-requires c κs = search needs
@@ -27,28 +32,47 @@ all-apart-requires c κs = search needs
 build-requires : tie.Need-build-requires
 build-requires c κs =
     let t = c .before .before .before in
-    let u = t .before .before in
-    let start = u .before .before .before .before in (
-      start-asks _ _ _ (start .pre .0) (start .pre .1) _ _ (t .before .no-atoms .ensures) (t .all-apart .ensures),
-      u .has-unknowns .ensures,
-    )
+    let n = t .before in
+    let u = n .before in
+    let start = u .before .before .before in
+    start-builds (start .pre .0) (start .pre .1) (t .all-apart .ensures) (n .choice-counts .ensures)
+    (u .has-unknowns .ensures)
 
 returns : tie.Need-returns
 returns c =
-    let t = c .before .before .before .before in
-    let start = t .before .before .before .before .before .before in
-    told-same
-    (start-next _ _ _ (start .pre .0) (start .pre .1) _ _ (t .before .no-atoms .ensures) (t .all-apart .ensures) _)
-    (c .build .ensures)
+    let t = c .before .before .before .before .before in
+    let start = t .before .before .before .before .before in
+    let Q = start .args .question .now in
+    found-none _
+    (told-same
+    (start-next Q _ _ (start .pre .0) (start .pre .1) _ _ (none-left Q 0 0 refl) (t .all-apart .ensures) _)
+    (c .before .build .ensures))
+    (c .if1 .taken)
+
+sub-t24 : tie.Need-sub-t24
+sub-t24 c = search needs
+
+returns-2 : tie.Need-returns-2
+returns-2 c =
+    let t = c .before .before .before .before .before in
+    let start = t .before .before .before .before .before in
+    let Q = start .args .question .now in
+    found-some _
+    (told-same
+    (start-next Q _ _ (start .pre .0) (start .pre .1) _ _ (none-left Q 0 0 refl) (t .all-apart .ensures) _)
+    (c .before .build .ensures))
+    (c .if1 .left)
 
 pub next-spec : {M : Type 1} → statement M
 next-spec =
     tie.close
     (tie.spec
-    shared-slice-read-n
+    element-copy-out-n
     cast-n
     has-unknowns-requires
-    no-atoms-requires
+    choice-counts-requires
     all-apart-requires
     build-requires
-    returns)
+    returns
+    sub-t24
+    returns-2)

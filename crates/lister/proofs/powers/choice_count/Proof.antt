@@ -1,20 +1,13 @@
--- `lister::powers::choice_count` meets its contract: the code's table is that of `specs/Counts`, whose rule is one test
--- that is computed at every entry.
+-- `lister::powers::choice_count` meets its contract: the code's table is that of `specs/Counts`, which is right at every
+-- entry.
 use borrow.Author.Needs.{needs}
 use native.Mathlib.Omega.{arith}
 use mathlib.Core.Path.{_≡_}
-use mathlib.Core.Bool.{Bool}
-use mathlib.Core.List.{[]}
-use Prim.Native.Nat.{ℕ, suc, _-_, _^_}
-use lib.ListN.{getD}
-use lib.Dec.{eqb, eqb→eq}
+use Prim.Native.Nat.{suc, _-_}
 use Rattle.lister.specs.Counts.{counts}
-use Rattle.unify.proofs.Each.{below, at}
+use Rattle.lister.proofs.Counts.{counts-right}
 use Rattle.lister.proofs.powers.choice_count.Statement.{statement}
 use Rattle.lister.proofs.powers.choice_count.Tie as tie
-
-right : ℕ → ℕ → Bool
-right h n = eqb (getD (getD counts h []) n 0) (suc (suc h) ^ n)
 
 sub-result : tie.Need-sub-result
 sub-result c = search needs
@@ -32,13 +25,11 @@ index-2-result : tie.Need-index-2-result
 index-2-result c = search needs
 
 returns : tie.Need-returns
-unfolding counts right
+unfolding counts
 returns c =
     let h = c .before .args .h - 1 in
     let e : suc (c .before .args .h) ≡ suc (suc h) = omega arith in
-    rw e
-    (eqb→eq _ _
-    (at 9 (right h) (at 4 (λ h. below 9 (right h)) tt h (omega arith)) (c .before .args .n) (omega arith)))
+    rw e (counts-right h (c .before .args .n) (omega arith) (omega arith))
 
 pub choice-count-spec : {M : Type 1} → statement M
 choice-count-spec =
