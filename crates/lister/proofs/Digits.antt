@@ -41,14 +41,14 @@ next-place : (n : ℕ) → 1 + n * 7 + 7 ≡ 1 + (n + 1) * 7
 next-place n = omega arith
 
 -- no number is as great as there are choices
-pub number-small : {Q B : List ℕ} {p : Parts} {row : List ℕ} {unknowns : Bool} {passed more number sent : ℕ} {table : List ℕ}
+pub number-small : {Q B row table : List ℕ} {p : Parts} {unknowns : Bool} {passed more number sent : ℕ}
     → Builds Q B p row unknowns passed more number sent table → number < mostChoices
 number-small {p = p} {more = more} {number = number} b =
     let one : suc number * 1 ≤ suc number * count (p .heads) more =
     mul-le-mul-left (suc number) (count-some (p .heads) more) in
     omega (arith, one, b .asks .small)
 
-module _ {Q B : List ℕ} {p : Parts} {row : List ℕ} {unknowns : Bool} {passed more number sent : ℕ} {table : List ℕ} {d : ℕ}
+module _ {Q B row table : List ℕ} {p : Parts} {unknowns : Bool} {passed more number sent d : ℕ}
     (b : Builds Q B p row unknowns passed more number sent table) (some : 0 < more) (small : d ≤ p .heads) where
   tries : Tries Q B p (1 + passed * 7) more number (anySent sent) (leftBy Q passed sent) table d
   tries = (b .asks, some, small)
@@ -103,8 +103,8 @@ module _ {Q B : List ℕ} {p : Parts} {row : List ℕ} {unknowns : Bool} {passed
       (as-before sent) (child-left tries (left-more Q passed sent)))
 
   -- the atom is put on a head atom, in a copy of the classes
-  module _ (h : 0 < d) (ok : Bool) (copy table′ : List ℕ) (e : merged ok table′ ≡ meeting Q B p (1 + passed * 7) copy d)
-      (same : copy ≡ table) (t : ok ≡ true) where
+  module _ (h : 0 < d) (ok : Bool) (copy table′ : List ℕ)
+      (e : merged ok table′ ≡ meeting Q B p (1 + passed * 7) copy d) (same : copy ≡ table) (t : ok ≡ true) where
     one-sent : true ≡ anySent (sent * 2 + 1)
     one-sent = sym (some-sent (sent * 2 + 1) (λ z. absurd (omega arith)))
 
@@ -128,7 +128,8 @@ module _ {Q B : List ℕ} {p : Parts} {row : List ℕ} {unknowns : Bool} {passed
 
     pub sends : (from : ℕ) → then from (sent * 2 + 1) table′ ≡ by-d from
     sends from =
-        ap (λ i. sought Q B p from i (more - 1) next (anySent (sent * 2 + 1)) (leftBy Q (passed + 1) (sent * 2 + 1)) table′)
+        ap
+        (λ i. sought Q B p from i (more - 1) next (anySent (sent * 2 + 1)) (leftBy Q (passed + 1) (sent * 2 + 1)) table′)
         (sym (next-place passed))
         ∙ ap
         (λ s. sought Q B p from (1 + passed * 7 + 7) (more - 1) next s (leftBy Q (passed + 1) (sent * 2 + 1)) table′)
@@ -137,8 +138,8 @@ module _ {Q B : List ℕ} {p : Parts} {row : List ℕ} {unknowns : Bool} {passed
         ∙ sent-at tries from h ok copy table′ e same t
 
 -- what `try_digit` is asked, for the laws about it
-pub trying : {Q B : List ℕ} {p : Parts} {row : List ℕ} {unknowns : Bool} {passed more number sent : ℕ} {table : List ℕ}
-    {d : ℕ} {E : Type 0} → Builds Q B p row unknowns passed more number sent table × ((0 < more) × (d ≤ p .heads) × E)
+pub trying : {Q B row table : List ℕ} {p : Parts} {unknowns : Bool} {passed more number sent d : ℕ} {E : Type 0}
+    → Builds Q B p row unknowns passed more number sent table × ((0 < more) × (d ≤ p .heads) × E)
     → Tries Q B p (1 + passed * 7) more number (anySent sent) (leftBy Q passed sent) table d
 trying k = (k .0 .asks, k .1 .0, k .1 .1)
 

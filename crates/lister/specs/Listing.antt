@@ -102,8 +102,8 @@ pub record Asks (Q B : List ℕ) (p : Parts) (i more number : ℕ) (sent : Bool)
 
 -- the same as the code holds it: the atoms passed, those of them that are sent by a bit for each, the row of counts, and
 -- whether the rule has existential variables
-pub record Builds (Q B : List ℕ) (p : Parts) (row : List ℕ) (unknowns : Bool) (passed more number sent : ℕ) (table : List ℕ)
-    : Type 0 where
+pub record Builds (Q B : List ℕ) (p : Parts) (row : List ℕ) (unknowns : Bool) (passed more number sent : ℕ)
+    (table : List ℕ) : Type 0 where
   pub asks : Asks Q B p (1 + passed * 7) more number (anySent sent) (leftBy Q passed sent) table
   pub question : QuestionIn Q
   pub all : passed + more ≡ getD Q 0 0

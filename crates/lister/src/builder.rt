@@ -4,16 +4,18 @@
 // room for the rewriting is lent too, and written once one is found.
 use crate::Found;
 use crate::classes::copied;
-use crate::leaving::left_atoms;
+use crate::leaving::put_left;
 use crate::powers::choice_counts;
 use crate::writing::rewriting;
 use book::Parts;
 use covering::RECORD;
+use forming::no_atoms;
 use unify::all_apart;
 use unify::has_unknowns;
 use unify::is_valid;
 use unify::join_atoms;
 ghost use mathlib.Core.Path.{_≡_};
+ghost use mathlib.Core.Bool.{false};
 ghost use Prim.Native.Nat.{_+_, _*_, _-_, _≤_, _<_};
 ghost use lib.ListN.{getD};
 ghost use Rattle.covering.specs.Record.{stored, atomAt, atomsAt, questionOf};
@@ -25,27 +27,24 @@ ghost use Rattle.unify.specs.Table.{tabled};
 ghost use Rattle.unify.specs.InBytes.{classesOf};
 ghost use Rattle.unify.specs.Unknowns.{hasUnknowns};
 ghost use Rattle.lister.specs.Leaving.{leftBy, anySent};
-ghost use Rattle.lister.specs.Listing.{ruleOf, RuleIn, QuestionIn, ClassesFit, Builds, FoundIs, ToldIs};
+ghost use Rattle.lister.specs.Listing.{ruleOf, RuleIn, QuestionIn, LeftIn, ClassesFit, Builds, FoundIs, ToldIs};
 
-// Whether the choices with this prefix, of n atoms, can be valid: not, if the prefix itself is not. A rule without
-// existential variables has only valid choices, so that nothing is tested.
-fn can_be_valid(
-    question: &[u8; RECORD],
+// Whether a prefix with these left atoms and classes is valid. A rule without existential variables has only valid
+// choices, so that nothing is tested.
+fn are_valid(
     book: &[u8],
     rule: Parts,
     unknowns: bool,
-    n: usize,
-    sent: usize,
+    left: &[u8; RECORD],
     table: &[u8; 96],
 ) -> bool
-    requires { ⌜ QuestionIn (now question)
-        × (n ≤ getD (now question) 0 0)
-        × RuleIn (now book) rule
+    requires { ⌜ RuleIn (now book) rule
+        × LeftIn (now left)
         × (unknowns ≡ hasUnknowns (ruleOf (now book) rule)) ⌝ }
     ensures { λ r. ⌜ r
         ≡ valid
         (tabled (classesOf (now (table .entry))))
-        (questionOf stored (leftBy (now (question .entry)) n sent))
+        (questionOf stored (now (left .entry)))
         (move 48 (ruleOf (now (book .entry)) rule)) ⌝ }
 {
     if !unknowns {
@@ -55,8 +54,41 @@ fn can_be_valid(
     let bodies = rule.bodies;
     let head = rule.head;
     let heads = rule.heads;
-    let left = left_atoms(question, n, sent);
-    is_valid(&left, book, body, bodies, head, heads, table)
+    is_valid(left, book, body, bodies, head, heads, table)
+}
+
+// Whether the choices with a prefix of n atoms, then one that is sent, can be valid: not, if that is not valid already.
+// The last of the `more` atoms is sent without a test: a whole choice is tested as such.
+fn can_be_valid(
+    question: &[u8; RECORD],
+    book: &[u8],
+    rule: Parts,
+    unknowns: bool,
+    n: usize,
+    more: usize,
+    sent: usize,
+    table: &[u8; 96],
+) -> bool
+    requires { ⌜ QuestionIn (now question)
+        × (n ≤ getD (now question) 0 0)
+        × RuleIn (now book) rule
+        × (unknowns ≡ hasUnknowns (ruleOf (now book) rule)) ⌝ }
+    ensures { λ r. ⌜ (r ≡ false
+        → valid
+        (tabled (classesOf (now (table .entry))))
+        (questionOf stored (leftBy (now (question .entry)) n sent))
+        (move 48 (ruleOf (now (book .entry)) rule))
+        ≡ false) ⌝ }
+{
+    if more == 1 {
+        return true;
+    }
+    if unknowns {
+        let mut left = no_atoms();
+        put_left(&mut left, question, n, sent);
+        return are_valid(book, rule, unknowns, &left, table);
+    }
+    true
 }
 
 // What a whole choice of n atoms gives, if it is valid and not before the start.
@@ -90,10 +122,11 @@ fn whole_choice(
     if number < from {
         return 0;
     }
-    if !can_be_valid(question, book, rule, unknowns, n, sent, table) {
+    let mut left = no_atoms();
+    put_left(&mut left, question, n, sent);
+    if !are_valid(book, rule, unknowns, &left, table) {
         return 0;
     }
-    let left = left_atoms(question, n, sent);
     *out = rewriting(&left, book, rule, table);
     number + 1
 }
@@ -239,7 +272,7 @@ fn try_digit(
     if !join_atoms(question, book, i, k, &mut merged) {
         return 0;
     }
-    if !can_be_valid(question, book, rule, unknowns, passed, sent, &merged) {
+    if !can_be_valid(question, book, rule, unknowns, passed, more, sent, &merged) {
         return 0;
     }
     build(

@@ -1,7 +1,6 @@
 // The atoms that a choice leaves: a record of them, written from a bit for each atom, 1 for those that are sent, the last
 // atom's the lowest.
 use covering::RECORD;
-use forming::no_atoms;
 use forming::put_atom;
 ghost use mathlib.Core.Path.{_≡_};
 ghost use mathlib.Core.List.{[]};
@@ -12,8 +11,8 @@ ghost use Rattle.covering.specs.Buffer.{heldIn, recordRoom};
 ghost use Rattle.lister.specs.Leaving.{leftBy};
 ghost use Rattle.lister.specs.Listing.{QuestionIn};
 
-// Puts those of the first n atoms that are left after each other in a record with no atom yet.
-fn put_left(left: &mut [u8; RECORD], question: &[u8; RECORD], n: usize, sent: usize)
+// Puts those of the first n atoms that are left after each other in a record with no atom yet, which is lent.
+pub fn put_left(left: &mut [u8; RECORD], question: &[u8; RECORD], n: usize, sent: usize)
     requires { ⌜ (now left ≡ heldIn stored recordRoom [])
         × QuestionIn (now question)
         × (n ≤ getD (now question) 0 0) ⌝ }
@@ -27,14 +26,4 @@ fn put_left(left: &mut [u8; RECORD], question: &[u8; RECORD], n: usize, sent: us
         return;
     }
     put_atom(left, question, 1 + (n - 1) * 7);
-}
-
-// The record of those of the first n atoms that are left.
-pub fn left_atoms(question: &[u8; RECORD], n: usize, sent: usize) -> [u8; RECORD]
-    requires { ⌜ QuestionIn (now question) × (n ≤ getD (now question) 0 0) ⌝ }
-    ensures { λ r. ⌜ r ≡ leftBy (now (question .entry)) n sent ⌝ }
-{
-    let mut left = no_atoms();
-    put_left(&mut left, question, n, sent);
-    left
 }

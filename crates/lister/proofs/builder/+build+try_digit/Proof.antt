@@ -12,7 +12,8 @@ use Rattle.lister.proofs.Asked.{child-small, child-number, head-sound}
 use Rattle.lister.proofs.Answers.{told-same, told-none, Reached, sought-whole, sought-unsent}
 use Rattle.lister.proofs.Answers.{reached-first, reached-last, reached-found, reached-next}
 use Rattle.lister.proofs.Answers.{skipped, apart-at, clash-at}
-use Rattle.lister.proofs.Digits.{some-sent, none-sent, trying, asks-left, leaves, asks-sent, sends, gives-up, number-small}
+use Rattle.lister.proofs.Digits.{some-sent, none-sent, number-small, trying}
+use Rattle.lister.proofs.Digits.{asks-left, leaves, asks-sent, sends, gives-up}
 use Rattle.lister.specs.Leaving.{anySent, leftBy}
 use Rattle.lister.proofs.builder.build.Reads as build
 use Rattle.lister.proofs.builder.build.Kinds as build-kinds
@@ -39,7 +40,8 @@ build-Inv-loop question book rule counts unknowns from passed more number sent t
     × (out ≡ out₀)
 
 abbrev build-μ-loop : build-lts.MeasureT-loop
-build-μ-loop question book rule counts unknowns from passed more number sent table out₀ heads each d₀ out d = heads + 1 - d
+build-μ-loop question book rule counts unknowns from passed more number sent table out₀ heads each d₀ out d =
+    heads + 1 - d
 
 -- a call at the measure t, where the calls it makes of the two are below t
 module _ (t : ℕ) where
@@ -264,7 +266,9 @@ module _ (t : ℕ) where
 
   try-digit-can-be-valid-requires : Of-try-digit try-digit-lts.Need-can-be-valid-requires
   try-digit-can-be-valid-requires c κs =
-      let b = c .before .before .before .before .before .before .before .before .before .before .before .before .before .pre .1 .0 in
+      let j = c .before .before .before in
+      let start = j .before .before .before .before .before .before .before .before .before .before in
+      let b = start .pre .1 .0 in
       (b .question, omega (arith, b .all), b .asks .rule, b .told)
 
   try-digit-returns-5 : Of-try-digit try-digit-lts.Need-returns-5
@@ -279,11 +283,12 @@ module _ (t : ℕ) where
       told-none
       (gives-up (p .0) (p .1 .0) (p .1 .1) sent (j .join-atoms .result) _ (j .join-atoms .last .1 .1 .1 .1 .0)
       (j .join-atoms .ensures) (m .copied .ensures) ok (j .join-atoms .kept .1 .1 .1 .1 .0) _
-      (sym (v .can-be-valid .ensures) ∙ not-true _ (c .if5 .taken)))
+      (v .can-be-valid .ensures (not-true _ (c .if5 .taken))))
 
   try-digit-add-build-2 : Of-try-digit try-digit-lts.Need-add-build-2
   try-digit-add-build-2 c =
-      let start = c .before .before .before .before .before .before .before .before .before .before .before .before .before .before .before in
+      let j = c .before .before .before .before .before in
+      let start = j .before .before .before .before .before .before .before .before .before .before in
       omega (arith, start .pre .1 .0 .all, start .pre .1 .0 .question .few)
 
   try-digit-sub-build-2 : Of-try-digit try-digit-lts.Need-sub-build-2
@@ -291,12 +296,14 @@ module _ (t : ℕ) where
 
   try-digit-mul-build-2 : Of-try-digit try-digit-lts.Need-mul-build-2
   try-digit-mul-build-2 c =
-      let start = c .before .before .before .before .before .before .before .before .before .before .before .before .before .before .before in
+      let j = c .before .before .before .before .before in
+      let start = j .before .before .before .before .before .before .before .before .before .before in
       omega (arith, start .pre .1 .0 .bits, child-number (trying (start .pre .1)))
 
   try-digit-add-build-3 : Of-try-digit try-digit-lts.Need-add-build-3
   try-digit-add-build-3 c =
-      let start = c .before .before .before .before .before .before .before .before .before .before .before .before .before .before .before in
+      let j = c .before .before .before .before .before in
+      let start = j .before .before .before .before .before .before .before .before .before .before in
       omega (arith, start .pre .1 .0 .bits, child-number (trying (start .pre .1)))
 
   try-digit-build-requires-2 : Of-try-digit try-digit-lts.Need-build-requires-2
