@@ -9,10 +9,10 @@ use native.Mathlib.Nat.{mul-le-mul-left}
 use native.Mathlib.Omega.{arith}
 use lib.ListN.{length, getD}
 use Rattle.covering.specs.Term.{Question}
-use Rattle.covering.specs.Record.{stored, questionOf}
+use Rattle.covering.specs.Record.{stored, questionOf, atomsAt}
 use Rattle.book.specs.declared.Parts.{Parts}
 use Rattle.unification.specs.Choice.{count}
-use Rattle.unification.specs.Step.{move, valid}
+use Rattle.unification.specs.Step.{move}
 use Rattle.unification.proofs.Prefix.{count-some}
 use Rattle.unify.specs.Table.{tabled, own}
 use Rattle.unify.specs.InBytes.{classesOf, merged}
@@ -23,7 +23,8 @@ use Rattle.lister.specs.Listing.{ruleOf, QuestionIn, RuleIn, Asks, Build
 use Rattle.lister.proofs.LeftByBits.{none-left, left-more, sent-more}
 use Rattle.lister.proofs.Asked.{Tries, meeting, child-left, child-sent, start-asks}
 use Rattle.lister.proofs.Answers.{sought, soughtBy, left-at, sent-at}
-use Rattle.lister.proofs.Pruned.{asked-invalid}
+use Rattle.lister.specs.Hopeless.{Hopeless}
+use Rattle.lister.proofs.Stuck.{asked-hopeless}
 
 -- whether an atom is sent, by the bits
 pub some-sent : (m : ℕ) → (m ≡ 0 → ⊥) → anySent m ≡ true
@@ -120,11 +121,19 @@ module _ {Q B row table : List ℕ} {p : Parts} {unknowns : Bool} {passed more n
           (subst (λ A. Asks Q B p (1 + passed * 7 + 7) (more - 1) next true A table′) (sym (sent-more Q passed sent))
           as-sent))
 
-      -- it is then not valid, and stays so
+      -- no choice that goes on is then valid
       pub gives-up : (from : ℕ)
-          → valid (tabled (classesOf table′)) (questionOf stored (leftBy Q passed sent)) (move 48 (ruleOf B p)) ≡ false
+          → Hopeless (tabled (classesOf table′)) (move 48 (ruleOf B p)) (questionOf stored (leftBy Q passed sent))
+          (atomsAt stored Q (1 + (passed + 1) * 7) (more - 1))
           → by-d from ≡ none
-      gives-up from invalid = sym (sent-at tries from h ok copy table′ e same t) ∙ asked-invalid as-sent from invalid
+      gives-up from hopeless =
+          sym (sent-at tries from h ok copy table′ e same t)
+          ∙ asked-hopeless as-sent from
+          (subst
+          (λ i.
+          Hopeless (tabled (classesOf table′)) (move 48 (ruleOf B p)) (questionOf stored (leftBy Q passed sent))
+          (atomsAt stored Q i (more - 1)))
+          (sym (next-place passed)) hopeless)
 
     pub sends : (from : ℕ) → then from (sent * 2 + 1) table′ ≡ by-d from
     sends from =

@@ -60,27 +60,27 @@ below-more A f n m = let h : n < 48 = f n m in omega arith
 module _ {Q B : List ℕ} {p : Parts} {i more number : ℕ} {sent : Bool} {A table : List ℕ}
     (asks : Asks Q B p i more number sent A table) (from : ℕ)
   where
-    low-body : Below 96 ((move 48 (ruleOf B p)) .body)
+    pub low-body : Below 96 ((move 48 (ruleOf B p)) .body)
     unfolding ruleIn
     low-body =
         moved-below 48 48 (atomsAt stored B (p .body) (p .bodies))
         (fits-below _ (all-fit B (p .body) (p .bodies) (asks .rule .body)))
 
-    low-head : Below 96 ((move 48 (ruleOf B p)) .head)
+    pub low-head : Below 96 ((move 48 (ruleOf B p)) .head)
     unfolding ruleIn
     low-head =
         moved-below 48 48 (atomsAt stored B (p .head) (p .heads))
         (fits-below _ (all-fit B (p .head) (p .heads) (asks .rule .head)))
 
-    low-rest : Below 96 (atomsAt stored Q i more)
+    pub low-rest : Below 96 (atomsAt stored Q i more)
     low-rest = below-more (atomsAt stored Q i more) (fits-below _ (all-fit Q i more (asks .atoms)))
 
-    low-left : Below 96 (questionOf stored A)
+    pub low-left : Below 96 (questionOf stored A)
     low-left =
         subst (Below 96) (sym (question-at stored A refl))
         (below-more (atomsAt stored A 1 (getD A 0 0)) (fits-below _ (all-fit A 1 (getD A 0 0) (asks .left .atoms))))
 
-    whole : length (classesOf table) ≡ 96
+    pub whole : length (classesOf table) ≡ 96
     unfolding classesOf
     whole = length-map table termOf ∙ asks .size
 

@@ -1,6 +1,6 @@
 -- A prefix with an atom that is stuck gives nothing (`stuck-nothing`): the atom's turn comes, and left or sent it makes the
 -- choice invalid. Until then more is put together, which keeps it stuck. Over classes, then over a table that has all
--- variables in play (`table-stuck`). Assumes nothing.
+-- variables in play (`table-stuck`), and over bytes, as `build` is asked (`asked-hopeless`). Assumes nothing.
 use mathlib.Core.Path.{_≡_, refl, sym, _∙_, ap, subst}
 use mathlib.Core.Bool.{Bool, true, false, not, _||_, _&&_}
 use mathlib.Core.Logic.{_⊎_, inl, inr}
@@ -12,6 +12,7 @@ use lib.Dec.{T}
 use lib.ListN.{length}
 use Rattle.covering.specs.Lists.{_∈_, bind, numbers}
 use Rattle.covering.specs.Term.{Term, var, con, Atom, Question, Sub, on-term, terms, eqTerm, isVar, Below}
+use Rattle.covering.specs.Record.{stored, atomsAt, questionOf}
 use Rattle.covering.specs.Rule.{Rule}
 use Rattle.covering.proofs.Lists.{all-out}
 use Rattle.covering.proofs.Terms.{con-inj, eqTerm→eq, eq→eqTerm, terms-in}
@@ -22,11 +23,15 @@ use Rattle.unification.specs.Step.{move, isUnknown, guarded, safe, valid}
 use Rattle.unification.proofs.Classes.{Solved, unify-sound, coarser-term}
 use Rattle.unification.proofs.Collected.{firstOf-same, firstOf-none}
 use Rattle.unification.proofs.Pairs.{head-of}
+use Rattle.book.specs.declared.Parts.{Parts}
+use Rattle.unify.specs.InBytes.{classesOf}
 use Rattle.unify.specs.Stuck.{TiedTo, Tied, Barred, Stuck}
 use Rattle.unify.specs.Table.{Table, tabled}
 use Rattle.lister.specs.Build.{Builder, more, first, firstByDigit, builder, tableBuilder}
 use Rattle.lister.proofs.Build.{first-digits}
-use Rattle.lister.proofs.Pruned.{invalid-stays}
+use Rattle.lister.specs.Hopeless.{Hopeless}
+use Rattle.lister.specs.Listing.{ruleOf, Asks}
+use Rattle.lister.proofs.Pruned.{invalid-stays, asked-invalid, low-body, low-head, low-rest, low-left, whole}
 use Rattle.lister.proofs.Table.{Agree, table-same}
 
 -- the existential variable is not alone: u, which is guarded, is in its class too
@@ -165,3 +170,16 @@ module _ (k : ℕ) (r : Rule) (n : ℕ) (a : Atom) where
       table-stuck i s =
           table-same size k r n lowB lowH q w L b m (tabled m) lowq lowL (record { size = long; entry = λ j h. refl })
           ∙ stuck-nothing q i w L b (tabled m) s
+
+-- as `build` is asked
+module _ {Q B : List ℕ} {p : Parts} {i left number : ℕ} {sent : Bool} {A table : List ℕ}
+    (asks : Asks Q B p i left number sent A table) (from : ℕ)
+  where
+    pub asked-hopeless : Hopeless (tabled (classesOf table)) (move 48 (ruleOf B p)) (questionOf stored A) (atomsAt stored Q i left)
+        → first (tableBuilder 48 (ruleOf B p) from) number (questionOf stored A) sent (atomsAt stored Q i left)
+        (classesOf table)
+        ≡ none
+    asked-hopeless (inl e) = asked-invalid asks from e
+    asked-hopeless (inr s) =
+        table-stuck 48 (ruleOf B p) from (s .0) 96 (low-body asks from) (low-head asks from) (atomsAt stored Q i left) number
+        (questionOf stored A) sent (classesOf table) (low-rest asks from) (low-left asks from) (whole asks from) (s .1) (s .2)

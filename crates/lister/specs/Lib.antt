@@ -3,5 +3,6 @@
 pub mod Counts
 pub mod Build
 pub mod Leaving
+pub mod Hopeless
 pub mod Listing
 pub mod FirstDigits

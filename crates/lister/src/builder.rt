@@ -14,8 +14,9 @@ use unify::all_apart;
 use unify::has_unknowns;
 use unify::is_valid;
 use unify::join_atoms;
+use unify::some_stuck;
 ghost use mathlib.Core.Path.{_≡_};
-ghost use mathlib.Core.Bool.{false};
+ghost use mathlib.Core.Bool.{true, false};
 ghost use Prim.Native.Nat.{_+_, _*_, _-_, _≤_, _<_};
 ghost use lib.ListN.{getD};
 ghost use Rattle.covering.specs.Record.{stored, atomAt, atomsAt, questionOf};
@@ -26,6 +27,7 @@ ghost use Rattle.lister.specs.Counts.{CountsFor, mostChoices};
 ghost use Rattle.unify.specs.Table.{tabled};
 ghost use Rattle.unify.specs.InBytes.{classesOf};
 ghost use Rattle.unify.specs.Unknowns.{hasUnknowns};
+ghost use Rattle.lister.specs.Hopeless.{SomeStuck, Hopeless};
 ghost use Rattle.lister.specs.Leaving.{leftBy, anySent};
 ghost use Rattle.lister.specs.Listing.{ruleOf, RuleIn, QuestionIn, LeftIn, ClassesFit, Builds, FoundIs, ToldIs};
 
@@ -57,8 +59,46 @@ fn are_valid(
     is_valid(left, book, body, bodies, head, heads, table)
 }
 
-// Whether the choices with a prefix of n atoms, then one that is sent, can be valid: not, if that is not valid already.
-// The last of the `more` atoms is sent without a test: a whole choice is tested as such.
+// Whether one of the n atoms after those passed can get no digit any more. With fewer than three it costs more to ask
+// than to try.
+fn looks_stuck(
+    question: &[u8; RECORD],
+    book: &[u8],
+    rule: Parts,
+    passed: usize,
+    n: usize,
+    table: &[u8; 96],
+) -> bool
+    requires { ⌜ QuestionIn (now question) × (passed + n ≤ getD (now question) 0 0) × RuleIn (now book) rule ⌝ }
+    ensures { λ r. ⌜ (r ≡ true
+        → SomeStuck
+        (tabled (classesOf (now (table .entry))))
+        (move 48 (ruleOf (now (book .entry)) rule))
+        (atomsAt stored (now (question .entry)) (1 + passed * 7) n)) ⌝ }
+{
+    if n < 3 {
+        return false;
+    }
+    let body = rule.body;
+    let bodies = rule.bodies;
+    let head = rule.head;
+    let heads = rule.heads;
+    some_stuck(
+        question,
+        book,
+        body,
+        bodies,
+        head,
+        heads,
+        table,
+        1 + passed * 7,
+        n,
+    )
+}
+
+// Whether the choices with a prefix of n atoms, then one that is sent, can be valid: not, if that is not valid already, or
+// if an atom after it can get no digit any more. The last of the `more` atoms is sent without a test: a whole choice is
+// tested as such.
 fn can_be_valid(
     question: &[u8; RECORD],
     book: &[u8],
@@ -70,15 +110,16 @@ fn can_be_valid(
     table: &[u8; 96],
 ) -> bool
     requires { ⌜ QuestionIn (now question)
-        × (n ≤ getD (now question) 0 0)
+        × (0 < more)
+        × (n + more ≤ getD (now question) 0 0)
         × RuleIn (now book) rule
         × (unknowns ≡ hasUnknowns (ruleOf (now book) rule)) ⌝ }
     ensures { λ r. ⌜ (r ≡ false
-        → valid
+        → Hopeless
         (tabled (classesOf (now (table .entry))))
-        (questionOf stored (leftBy (now (question .entry)) n sent))
         (move 48 (ruleOf (now (book .entry)) rule))
-        ≡ false) ⌝ }
+        (questionOf stored (leftBy (now (question .entry)) n sent))
+        (atomsAt stored (now (question .entry)) (1 + (n + 1) * 7) (more - 1))) ⌝ }
 {
     if more == 1 {
         return true;
@@ -86,7 +127,10 @@ fn can_be_valid(
     if unknowns {
         let mut left = no_atoms();
         put_left(&mut left, question, n, sent);
-        return are_valid(book, rule, unknowns, &left, table);
+        if !are_valid(book, rule, unknowns, &left, table) {
+            return false;
+        }
+        return !looks_stuck(question, book, rule, n + 1, more - 1, table);
     }
     true
 }

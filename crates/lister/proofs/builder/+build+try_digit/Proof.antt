@@ -269,7 +269,7 @@ module _ (t : ℕ) where
       let j = c .before .before .before in
       let start = j .before .before .before .before .before .before .before .before .before .before in
       let b = start .pre .1 .0 in
-      (b .question, omega (arith, b .all), b .asks .rule, b .told)
+      (b .question, start .pre .1 .1 .0, omega (arith, b .all), b .asks .rule, b .told)
 
   try-digit-returns-5 : Of-try-digit try-digit-lts.Need-returns-5
   try-digit-returns-5 c =
