@@ -234,7 +234,9 @@ try-candidate-add-send-2 : (t : ℕ) → try-candidate-lts.Need-add-send-2 (try-
 try-candidate-add-send-2 t c = omega arith
 
 try-candidate-send-requires : (t : ℕ) → try-candidate-lts.Need-send-requires (try-candidate-calls t) (try-candidate-at t) try-candidate.Post
-try-candidate-send-requires t c κs = (omega arith, omega arith)
+try-candidate-send-requires t c κs =
+    let pre = c .before .before .before .before .before .before .before .pre .1 in
+    (omega arith, omega arith, atom-used stored _ _ (in-rest stored _ _ _ (pre .1) .0))
 
 try-candidate-add-place-next : (t : ℕ) → try-candidate-lts.Need-add-place-next (try-candidate-calls t) (try-candidate-at t) try-candidate.Post
 try-candidate-add-place-next t c = omega arith
