@@ -13,7 +13,7 @@ use lib.ListN.{length, getD}
 use Rattle.covering.specs.Lists.{isSome}
 use Rattle.covering.specs.Search.{Part, placeTerm, placeTerms, placeAtom}
 use Rattle.covering.specs.Record.{stored, termOf, argsAt, atomAt, isTerm, unused, usedFirst, isAtom}
-use Rattle.cover.specs.HeldMap.{partOf, sentTo}
+use Rattle.cover.specs.HeldMap.{partOf, sentTo, HadBefore}
 use Rattle.covering.proofs.Tests.{either, true→T, false→no}
 use Rattle.covering.proofs.Lists.{none-of}
 use Rattle.covering.proofs.Bytes.{used-more, used-stops, unused-passes, unused-fails, term-constant, atom-used}
@@ -42,6 +42,47 @@ no-term : isTerm stored 255 ≡ false
 unfolding isTerm
 no-term = refl
 
+-- once F's places end nothing more is sent
+module _ (m F S : List ℕ) (i k w : ℕ) where
+  pub stops : (j : ℕ) → j < w → T (usedFirst stored F (i + j) (w - j)) → getD F (i + j) 0 ≡ 255
+      → T (unused F (i + j) (w - j))
+  stops j lt u q = subst T (used-stops F i j w lt stored (ap (isTerm stored) q ∙ no-term)) u
+
+  pub sent-end : (d j : ℕ) → j + d ≡ w → T (unused F (i + j) (w - j)) → sentTo m F S i k w ≡ sentTo m F S i k j
+  sent-end zero j e u = ap (sentTo m F S i k) (omega arith)
+  sent-end (suc d) j e u = go (sent-end d (j + 1) (omega arith)) (either (eqb (getD F (i + j) 0) 255))
+    where
+      go : (T (unused F (i + (j + 1)) (w - (j + 1))) → sentTo m F S i k w ≡ sentTo m F S i k (j + 1))
+          → (eqb (getD F (i + j) 0) 255 ≡ true) ⊎ (eqb (getD F (i + j) 0) 255 ≡ false)
+          → sentTo m F S i k w ≡ sentTo m F S i k j
+      go onward (inl b) =
+          let free = eqb-true _ _ b in
+          onward (subst T (unused-passes F i j w (omega arith) free) u)
+          ∙ sent-more m F S i k j
+          ∙ put-constant (sentTo m F S i k j) (getD F (i + j) 0) (getD S (k + j) 0) (omega arith)
+      go onward (inr b) = absurd (subst T (unused-fails F i j w (omega arith) (eqb-false _ _ b)) u)
+
+  -- and nothing more is to be kept
+  pub had-end : (h : List ℕ) (d j : ℕ) → j + d ≡ w → T (unused F (i + j) (w - j)) → HadBefore m F S i k j h
+      → HadBefore m F S i k w h
+  had-end h zero j e u b = record { room = b .room; had = λ n lt v. b .had n (omega arith) v }
+  had-end h (suc d) j e u b = go (had-end h d (j + 1) (omega arith)) (either (eqb (getD F (i + j) 0) 255))
+    where
+      one : getD F (i + j) 0 ≡ 255 → (n : ℕ) → n < j + 1 → getD F (i + n) 0 < 96 → (eqb n j ≡ true) ⊎ (eqb n j ≡ false)
+          → getD h n 0 ≡ getD (sentTo m F S i k n) (getD F (i + n) 0) 0
+      one free n lt v (inl q) =
+          let here : getD F (i + j) 0 < 96 = subst (λ x. getD F (i + x) 0 < 96) (eqb-true n j q) v in
+          absurd (omega arith)
+      one free n lt v (inr q) = let other = eqb-false n j q in b .had n (omega arith) v
+
+      go : (T (unused F (i + (j + 1)) (w - (j + 1))) → HadBefore m F S i k (j + 1) h → HadBefore m F S i k w h)
+          → (eqb (getD F (i + j) 0) 255 ≡ true) ⊎ (eqb (getD F (i + j) 0) 255 ≡ false) → HadBefore m F S i k w h
+      go onward (inl c) =
+          let free = eqb-true _ _ c in
+          onward (subst T (unused-passes F i j w (omega arith) free) u)
+          record { room = b .room; had = λ n lt v. one free n lt v (either (eqb n j)) }
+      go onward (inr c) = absurd (subst T (unused-fails F i j w (omega arith) (eqb-false _ _ c)) u)
+
 -- w places of which j are passed: where all can be sent, they are
 module _ (m F S : List ℕ) (i k w : ℕ) (l : length m ≡ 96) where
   abbrev sent : ℕ → List ℕ
@@ -62,20 +103,6 @@ module _ (m F S : List ℕ) (i k w : ℕ) (l : length m ≡ 96) where
         (term-sends (sent j) _ _ size (term-constant stored _ (more .0)) used′ (true→T _ b)
         ∙ ap (λ n. some (partOf n)) (sym (sent-more m F S i k j)))
 
-  -- once F's places end nothing more is sent
-  sent-end : (d j : ℕ) → j + d ≡ w → T (unused F (i + j) (w - j)) → sent w ≡ sent j
-  sent-end zero j e u = ap sent (omega arith)
-  sent-end (suc d) j e u = go (sent-end d (j + 1) (omega arith)) (either (eqb (getD F (i + j) 0) 255))
-    where
-      go : (T (unused F (i + (j + 1)) (w - (j + 1))) → sent w ≡ sent (j + 1))
-          → (eqb (getD F (i + j) 0) 255 ≡ true) ⊎ (eqb (getD F (i + j) 0) 255 ≡ false) → sent w ≡ sent j
-      go onward (inl b) =
-          let free = eqb-true _ _ b in
-          onward (subst T (unused-passes F i j w (omega arith) free) u)
-          ∙ sent-more m F S i k j
-          ∙ put-constant (sent j) (getD F (i + j) 0) (getD S (k + j) 0) (omega arith)
-      go onward (inr b) = absurd (subst T (unused-fails F i j w (omega arith) (eqb-false _ _ b)) u)
-
   pub sent-all : (d j : ℕ) → j + d ≡ w → T (usedFirst stored F (i + j) (w - j)) → T (isSome (rest j))
       → rest j ≡ some (partOf (sent w))
   sent-all zero j e u s =
@@ -94,9 +121,6 @@ module _ (m F S : List ℕ) (i k w : ℕ) (l : length m ≡ 96) where
       -- what is none is not some
       never : rest j ≡ none → rest j ≡ some (partOf (sent w))
       never q = absurd (subst (λ o. T (isSome o)) q s)
-
-      stops : getD F (i + j) 0 ≡ 255 → T (unused F (i + j) (w - j))
-      stops q = subst T (used-stops F i j w lt stored (ap (isTerm stored) q ∙ no-term)) u
 
       step : Option Part
       step = placeTerm (partOf (sent j)) (termOf (getD F (i + j) 0)) (termOf (getD S (k + j) 0))
@@ -118,7 +142,7 @@ module _ (m F S : List ℕ) (i k w : ℕ) (l : length m ≡ 96) where
           → rest j ≡ some (partOf (sent w))
       ends onward (inl a) (inl b) =
           places-end F S i k j w lt _ (eqb-true _ _ a)
-          ∙ rw b (ap (λ n. some (partOf n)) (sym (sent-end (suc d) j e (stops (eqb-true _ _ a)))))
+          ∙ rw b (ap (λ n. some (partOf n)) (sym (sent-end m F S i k w (suc d) j e (stops m F S i k w j lt u (eqb-true _ _ a)))))
       ends onward (inl a) (inr b) = never (places-end F S i k j w lt _ (eqb-true _ _ a) ∙ rw b refl)
       ends onward (inr a) (inl b) = never (places-short F S i k j w lt _ (eqb-false _ _ a) (eqb-true _ _ b))
       ends onward (inr a) (inr b) = going-on onward (eqb-false _ _ a) (eqb-false _ _ b) (either (isSome step))

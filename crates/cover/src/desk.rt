@@ -33,7 +33,7 @@ fn covers_record(first: &[u8], second: &[u8], w: usize, map: &mut [u8; VARIABLES
     let one = widened(first, w);
     let two = widened(second, w);
     let n = one[0] as usize;
-    place_next(&one, &two, map, 1, n)
+    place_next(&one, &two, map, 1, n, true)
 }
 
 // The first bytes of a map, those of the variables that a record may have at the desk.

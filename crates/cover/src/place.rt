@@ -130,7 +130,7 @@ fn send_term(map: &mut [u8; VARIABLES], t: u8, u: u8) -> u8
     had
 }
 
-// Sends the places of first from i on to those of second from k on, where they meet. Gives what the map had for each,
+// Sends the used places of first from i on to those of second from k on, where they meet. Gives what the map had for each,
 // to take back to.
 pub fn send(
     first: &[u8; RECORD],
@@ -139,7 +139,7 @@ pub fn send(
     i: usize,
     k: usize,
 ) -> [u8; 6]
-    requires { ⌜ (i + 6 ≤ recordRoom) × (k + 6 ≤ recordRoom) ⌝ }
+    requires { ⌜ (i + 6 ≤ recordRoom) × (k + 6 ≤ recordRoom) × T (usedFirst stored (now first) i 6) ⌝ }
     ensures { λ r. ⌜ (now (map .exit)
         ≡ sentTo (now (map .entry)) (now (first .entry)) (now (second .entry)) i k 6)
         × HadBefore (now (map .entry)) (now (first .entry)) (now (second .entry)) i k 6 r ⌝ }
@@ -147,7 +147,11 @@ pub fn send(
     let mut before = [255u8; 6];
     let mut j = 0;
     while j < 6 {
-        before[j] = send_term(map, first[i + j], second[k + j]);
+        let t = first[i + j];
+        if t == 255 {
+            return before;
+        }
+        before[j] = send_term(map, t, second[k + j]);
         j += 1;
     }
     before

@@ -11,7 +11,7 @@ ghost use mathlib.Core.Path.{_≡_};
 ghost use Prim.Native.Nat.{_+_, _*_, _≤_, _<_};
 ghost use lib.Dec.{T, eqb};
 ghost use lib.ListN.{length, getD};
-ghost use mathlib.Core.Bool.{true, not, _&&_};
+ghost use mathlib.Core.Bool.{true, false, not, _&&_};
 ghost use Rattle.covering.specs.Lists.{isSome, any, all};
 ghost use Rattle.covering.specs.Term.{terms, eqTerm};
 ghost use Rattle.covering.specs.Search.{placeAtom, findMap, covers};
@@ -78,6 +78,31 @@ fn all_have(
         more -= 1;
     }
     true
+}
+
+// Whether it is seen, if one looks, that the `left` atoms of first from i on cannot be placed: one has no candidate.
+fn seen_dead(
+    first: &[u8; RECORD],
+    second: &[u8; RECORD],
+    map: &[u8; VARIABLES],
+    i: usize,
+    left: usize,
+    look: bool,
+) -> bool
+    requires { ⌜ (length (now map) ≡ 96)
+        × AtomsIn stored (now first) i left
+        × (width stored (getD (now second) 0 0) ≤ recordRoom)
+        × (length (now first) ≡ recordRoom) ⌝ }
+    ensures { λ r. ⌜ (r ≡ true
+        → all
+        (hasCandidate (partOf (now (map .entry))) (questionOf stored (now (second .entry))))
+        (atomsAt stored (now (first .entry)) i left)
+        ≡ false) ⌝ }
+{
+    if !look {
+        return false;
+    }
+    !all_have(first, second, map, i, left)
 }
 
 // Whether t is one of the places of the atom of first at i.
@@ -187,13 +212,15 @@ fn gives_up(first: &[u8; RECORD], map: &[u8; VARIABLES], i: usize, left: usize, 
 
 // Takes the next atom: places the `left` atoms of first from i on, in order, on the atoms of second, the next one on the
 // first candidate from which those after it can be placed too. A branch in which some atom has no candidate any more ends
-// at once; that changes no answer.
+// at once; that changes no answer. Most searches that are not `careful` find a map at the first try: they look ahead
+// only once a candidate has failed.
 pub fn place_next(
     first: &[u8; RECORD],
     second: &[u8; RECORD],
     map: &mut [u8; VARIABLES],
     i: usize,
     left: usize,
+    careful: bool,
 ) -> bool
     requires { ⌜ (length (now map) ≡ 96)
         × AtomsIn stored (now first) i left
@@ -211,19 +238,24 @@ pub fn place_next(
     if left == 0 {
         return true;
     }
-    if !all_have(first, second, map, i, left) {
+    if seen_dead(first, second, map, i, left, careful) {
         return false;
     }
+    let mut looks = careful;
     let mut k = 1;
     let mut more = second[0];
     while 0 < more {
-        let tried = try_candidate(first, second, map, i, left - 1, k);
+        let tried = try_candidate(first, second, map, i, left - 1, k, looks);
         if tried == PLACED {
             return true;
         }
         if gives_up(first, map, i, left - 1, tried) {
             return false;
         }
+        if seen_dead(first, second, map, i, left, (tried == MET) & !looks) {
+            return false;
+        }
+        looks = looks | (tried == MET);
         k += 7;
         more -= 1;
     }
@@ -239,6 +271,7 @@ fn try_candidate(
     i: usize,
     left: usize,
     k: usize,
+    careful: bool,
 ) -> u8
     requires { ⌜ (length (now map) ≡ 96)
         × AtomsIn stored (now first) i (left + 1)
@@ -270,7 +303,7 @@ fn try_candidate(
         return APART;
     }
     let before = send(first, second, map, i + 1, k + 1);
-    if place_next(first, second, map, i + 7, left) {
+    if place_next(first, second, map, i + 7, left, careful) {
         return PLACED;
     }
     take_back(first, map, i + 1, before);
@@ -289,7 +322,7 @@ pub fn covers_sound(first: &[u8; RECORD], second: &[u8]) -> bool
     }
     let held = copy_record(second);
     let mut map = [255u8; VARIABLES];
-    place_next(first, &held, &mut map, 1, first[0] as usize)
+    place_next(first, &held, &mut map, 1, first[0] as usize, true)
 }
 
 // The same with first's first atom, which it has, on atom k of second: what a loop over candidates asks. The map is
@@ -315,5 +348,5 @@ pub fn covers_on(first: &[u8], second: &[u8; RECORD], map: &mut [u8; VARIABLES],
     }
     let held = copy_record(first);
     let n = held[0] as usize;
-    try_candidate(&held, second, map, 1, n - 1, 1 + k * 7) == PLACED
+    try_candidate(&held, second, map, 1, n - 1, 1 + k * 7, false) == PLACED
 }

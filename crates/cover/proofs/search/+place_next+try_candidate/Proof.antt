@@ -13,11 +13,10 @@ use Rattle.covering.specs.Record.{stored, atomAt, atomsAt, questionOf}
 use Rattle.covering.specs.Buffer.{recordRoom}
 use Rattle.covering.proofs.Bytes.{atom-used}
 use Rattle.covering.proofs.Places.{question-at}
-use Rattle.covering.proofs.Tests.{false→no}
 use Rattle.covering.proofs.Within.{in-first, in-rest}
 use Rattle.cover.specs.Candidates.{tried}
 use Rattle.cover.specs.HeldMap.{partOf}
-use Rattle.cover.proofs.Ahead.{dead-end}
+use Rattle.cover.proofs.Ahead.{seen-ends}
 use Rattle.cover.proofs.Maps.{atoms-apart}
 use Rattle.cover.proofs.Sent.{length-sent}
 use Rattle.cover.proofs.SearchSteps.{search-done, search-next, tried-none, found, not-found}
@@ -35,7 +34,7 @@ use Rattle.cover.proofs.search.+place_next+try_candidate.Lts-try_candid
 use Rattle.cover.proofs.place.terms_meet.Reads as terms-meet-reads
 use Rattle.cover.proofs.place.send.Reads as send-reads
 use Rattle.cover.proofs.place.take_back.Reads as take-back-reads
-use Rattle.cover.proofs.search.all_have.Reads as all-have-reads
+use Rattle.cover.proofs.search.seen_dead.Reads as seen-dead-reads
 use Rattle.cover.proofs.search.gives_up.Reads as gives-up-reads
 use Rattle.cover.proofs.search.+place_next+try_candidate.{statement}
 use Rattle.cover.proofs.search.+place_next+try_candidate.Tie.{close}
@@ -67,7 +66,7 @@ try-candidate-below t =
     try-candidate.Pre
 
 abbrev place-next-Inv-loop : place-next-lts.InvT-loop
-place-next-Inv-loop first second map₀ i left k₀ more₀ map k more =
+place-next-Inv-loop first second map₀ i left careful looks₀ k₀ more₀ map looks k more =
     (k + more * 7 ≤ recordRoom)
     × (map ≡ map₀)
     × (findMap (atomsAt stored first i left) (questionOf stored second) (partOf map₀)
@@ -79,11 +78,11 @@ place-next-Inv-loop first second map₀ i left k₀ more₀ map k more =
     (partOf map₀))
 
 abbrev place-next-μ-loop : place-next-lts.MeasureT-loop
-place-next-μ-loop first second map₀ i left k₀ more₀ map k more = more
+place-next-μ-loop first second map₀ i left careful looks₀ k₀ more₀ map looks k more = more
 
 -- what is asked of and learnt from what `place-next` calls
 abbrev place-next-calls : ℕ → place-next-lts.Claims
-place-next-calls t = (all-have-reads.Asked, all-have-reads.Learnt, try-candidate-below t, try-candidate.Post, gives-up-reads.Asked, gives-up-reads.Learnt)
+place-next-calls t = (seen-dead-reads.Asked, seen-dead-reads.Learnt, try-candidate-below t, try-candidate.Post, gives-up-reads.Asked, gives-up-reads.Learnt)
 
 -- what is asked of and learnt from what `try-candidate` calls
 abbrev try-candidate-calls : ℕ → try-candidate-lts.Claims
@@ -92,13 +91,13 @@ try-candidate-calls t = (terms-meet-reads.Asked, terms-meet-reads.Learnt, send-r
 place-next-returns : (t : ℕ) → place-next-lts.Need-returns (place-next-calls t) (place-next-at t) place-next.Post place-next-Inv-loop place-next-μ-loop
 place-next-returns t c = found _ _ _ refl (sym (search-done stored _ _ _ _ _ (c .if1 .taken)))
 
-place-next-all-have-requires : (t : ℕ) → place-next-lts.Need-all-have-requires (place-next-calls t) (place-next-at t) place-next.Post place-next-Inv-loop place-next-μ-loop
-place-next-all-have-requires t c κs =
+place-next-seen-dead-requires : (t : ℕ) → place-next-lts.Need-seen-dead-requires (place-next-calls t) (place-next-at t) place-next.Post place-next-Inv-loop place-next-μ-loop
+place-next-seen-dead-requires t c κs =
     let pre = c .before .before .pre .1 in
     (pre .0, pre .1, pre .2, pre .3)
 
 place-next-returns-2 : (t : ℕ) → place-next-lts.Need-returns-2 (place-next-calls t) (place-next-at t) place-next.Post place-next-Inv-loop place-next-μ-loop
-place-next-returns-2 t c = not-found _ _ (dead-end _ _ _ (false→no _ (sym (c .before .all-have .ensures) ∙ not-true _ (c .if2 .taken))))
+place-next-returns-2 t c = seen-ends _ _ _ _ refl (c .before .seen-dead .ensures (c .if2 .taken))
 
 place-next-element-copy-out-more : (t : ℕ) → place-next-lts.Need-element-copy-out-more (place-next-calls t) (place-next-at t) place-next.Post place-next-Inv-loop place-next-μ-loop
 place-next-element-copy-out-more t c = omega arith
@@ -161,6 +160,20 @@ place-next-returns-4 t c =
     search-ends _ _ _ _ _ _ _ _ _ _ (l .loop .inv .1) (l .loop .inv .2) (d .try-candidate .ensures .0)
     (d .try-candidate .ensures .1) (sym (g .gives-up .ensures) ∙ c .if4 .taken)
 
+place-next-seen-dead-requires-2 : (t : ℕ) → place-next-lts.Need-seen-dead-requires-2 (place-next-calls t) (place-next-at t) place-next.Post place-next-Inv-loop place-next-μ-loop
+place-next-seen-dead-requires-2 t c κs =
+    let d = c .before .before .before .before .before in
+    let l = d .before .before .before in
+    let pre = l .before .before .before .before .before .before .pre .1 in
+    (d .try-candidate .ensures .0 .long ∙ ap length (l .loop .inv .1) ∙ pre .0, pre .1, pre .2, pre .3)
+
+place-next-returns-5 : (t : ℕ) → place-next-lts.Need-returns-5 (place-next-calls t) (place-next-at t) place-next.Post place-next-Inv-loop place-next-μ-loop
+place-next-returns-5 t c =
+    let d = c .before .before .before .before .before .before .before in
+    let l = d .before .before .before in
+    let failed = ne-eqb _ 1 (c .before .before .before .before .before .before .if3 .left) in
+    seen-ends _ _ _ _ (d .try-candidate .ensures .0 .back failed ∙ l .loop .inv .1) (c .before .seen-dead2 .ensures (c .if5 .taken))
+
 place-next-add-k : (t : ℕ) → place-next-lts.Need-add-k (place-next-calls t) (place-next-at t) place-next.Post place-next-Inv-loop place-next-μ-loop
 place-next-add-k t c = omega arith
 
@@ -172,15 +185,15 @@ place-next-loop-less t c = omega arith
 
 place-next-loop-again : (t : ℕ) → place-next-lts.Need-loop-again (place-next-calls t) (place-next-at t) place-next.Post place-next-Inv-loop place-next-μ-loop
 place-next-loop-again t c =
-    let d = c .before .before .before .before in
+    let d = c .before .before .before .before .before .before .before in
     let l = d .before .before .before in
     let next =
     one-fails stored _ _ _ _ _ _ _ _ _ (omega arith) (l .loop .inv .1) (l .loop .inv .2) (d .try-candidate .ensures .0)
-    (ne-eqb _ 1 (c .before .before .before .if3 .left)) in
+    (ne-eqb _ 1 (c .before .before .before .before .before .before .if3 .left)) in
     (omega arith, next .0, next .1)
 
-place-next-returns-5 : (t : ℕ) → place-next-lts.Need-returns-5 (place-next-calls t) (place-next-at t) place-next.Post place-next-Inv-loop place-next-μ-loop
-place-next-returns-5 t c =
+place-next-returns-6 : (t : ℕ) → place-next-lts.Need-returns-6 (place-next-calls t) (place-next-at t) place-next.Post place-next-Inv-loop place-next-μ-loop
+place-next-returns-6 t c =
     let l = c .before in
     rw (l .loop .inv .1) (not-found _ _ (l .loop .inv .2 ∙ tried-none stored _ _ _ _ _ _ _ (omega arith)))
 
@@ -221,7 +234,9 @@ try-candidate-add-send-2 : (t : ℕ) → try-candidate-lts.Need-add-send-2 (try-
 try-candidate-add-send-2 t c = omega arith
 
 try-candidate-send-requires : (t : ℕ) → try-candidate-lts.Need-send-requires (try-candidate-calls t) (try-candidate-at t) try-candidate.Post
-try-candidate-send-requires t c κs = (omega arith, omega arith)
+try-candidate-send-requires t c κs =
+    let pre = c .before .before .before .before .before .before .before .pre .1 in
+    (omega arith, omega arith, atom-used stored _ _ (in-rest stored _ _ _ (pre .1) .0))
 
 try-candidate-add-place-next : (t : ℕ) → try-candidate-lts.Need-add-place-next (try-candidate-calls t) (try-candidate-at t) try-candidate.Post
 try-candidate-add-place-next t c = omega arith
@@ -283,7 +298,7 @@ pub +place-next+try-candidate-spec : {M : Type 1} → statement M
     place-next-Inv-loop
     place-next-μ-loop
     (place-next-returns t)
-    (place-next-all-have-requires t)
+    (place-next-seen-dead-requires t)
     (place-next-returns-2 t)
     (place-next-element-copy-out-more t)
     (place-next-loop-holds t)
@@ -293,11 +308,13 @@ pub +place-next+try-candidate-spec : {M : Type 1} → statement M
     (place-next-sub-gives-up t)
     (place-next-gives-up-requires t)
     (place-next-returns-4 t)
+    (place-next-seen-dead-requires-2 t)
+    (place-next-returns-5 t)
     (place-next-add-k t)
     (place-next-sub-more t)
     (place-next-loop-less t)
     (place-next-loop-again t)
-    (place-next-returns-5 t))
+    (place-next-returns-6 t))
     λ t. try-candidate-lts.spec (try-candidate-calls t)
     (try-candidate-at t)
     try-candidate.Post
