@@ -1,8 +1,8 @@
 //! Compares the second program with the others, byte for byte.
 //!
 //! `side` names the others that are called in this process; `output` is what one says of a
-//! book, `comparison` compares it, `desk` what is said of pairs of records, and `blocks`
-//! spreads generated books and pairs over threads.
+//! book, `comparison` compares it, `desk` what is said of pairs of records; `generated` makes
+//! books and pairs, `blocks` spreads them over threads, and `limit` says what takes too long.
 //! `against` starts another program, `programs` compares it. `shrink` and `show` make a
 //! difference small and readable; `asked` reads the command lines.
 
@@ -11,6 +11,8 @@ pub mod asked;
 pub mod blocks;
 pub mod comparison;
 pub mod desk;
+pub mod generated;
+pub mod limit;
 pub mod output;
 pub mod programs;
 pub mod show;

@@ -1,10 +1,9 @@
 //! A search that climbs towards slow books: a book is changed a little again and again, and what is
 //! slower is kept. It finds what nobody thought of; what it finds belongs among the worst known.
 
-mod change;
 mod timer;
 
-pub use change::changed;
+pub use second::edges::changed;
 pub use timer::{serve, Timer, CHILD};
 
 use second::book::{self, Book};

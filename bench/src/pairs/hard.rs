@@ -1,7 +1,7 @@
 //! Hard shapes: a pair of graphs each, an atom of one relation for each arrow.
 
-use super::graphs::*;
 use crate::task::{Bytes, Pace, Task, Work};
+use second::edges::graphs::*;
 use second::term::{Atom, Question, Term};
 use second::union::record;
 use second::width::Width;

@@ -1,6 +1,5 @@
 //! Covering by itself: pairs of records for the search desk.
 
-mod graphs;
 mod hard;
 mod taken;
 
