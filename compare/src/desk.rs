@@ -99,7 +99,11 @@ fn asked(pair: &Pair) -> impl Fn(OfRecords) -> Desk + '_ {
 }
 
 /// Nothing if two say the same of a pair; else how they differ.
-fn agreed(pair: &Pair, (one, mine): (&str, Said), (other, theirs): (&str, Said)) -> Result<(), String> {
+fn agreed(
+    pair: &Pair,
+    (one, mine): (&str, Said),
+    (other, theirs): (&str, Said),
+) -> Result<(), String> {
     for ((what, mine), theirs) in ASKED.iter().zip(mine).zip(theirs) {
         if !agree(mine, theirs) {
             let told = |answer| told(what, answer);
@@ -141,7 +145,10 @@ pub fn compare_batch(against: &Against, pairs: &[Pair]) -> Result<usize, String>
 
 /// A difference between two, shown.
 fn difference(pair: &Pair, (one, mine): (&str, &str), (other, theirs): (&str, &str)) -> String {
-    format!("DIFFERENCE\n{}{one}: {mine}\n{other}: {theirs}", shown(pair))
+    format!(
+        "DIFFERENCE\n{}{one}: {mine}\n{other}: {theirs}",
+        shown(pair)
+    )
 }
 
 /// A pair in bytes, and its questions in words as far as its records are sound.

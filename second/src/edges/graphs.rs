@@ -71,7 +71,9 @@ pub fn before(first: Vec<Arrow>, second: Vec<Arrow>) -> Vec<Arrow> {
 pub fn between(first: Vec<Arrow>, second: Vec<Arrow>) -> Vec<Arrow> {
     let (many, mut both) = (first.len(), before(first, second));
     let mut later = both.split_off(many).into_iter();
-    let turns = both.into_iter().flat_map(|arrow| [Some(arrow), later.next()]);
+    let turns = both
+        .into_iter()
+        .flat_map(|arrow| [Some(arrow), later.next()]);
     let turns: Vec<Arrow> = turns.flatten().collect();
     turns.into_iter().chain(later).collect()
 }

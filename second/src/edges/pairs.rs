@@ -99,7 +99,9 @@ fn fails_last(width: Width, random: &mut Random) -> (Question, Question) {
     let (mut first, mut second) = (question(drawn, &first), question(drawn, &second));
     let last = |term| Atom::new(1, vec![term]);
     let named = Term::Constant(random.below(2));
-    first.atoms.push(last(*random.one_of(&[named, Term::Variable(0)])));
+    first
+        .atoms
+        .push(last(*random.one_of(&[named, Term::Variable(0)])));
     second.atoms.push(last(Term::Constant(0)));
     (first, second)
 }

@@ -18,14 +18,32 @@ pub fn part(most: usize, random: &mut Random) -> Vec<Arrow> {
 
 /// The most points of which a clique has at most so many arrows.
 fn points_of_clique(arrows: usize) -> usize {
-    (2..6).rev().find(|n| n * (n - 1) / 2 <= arrows).unwrap_or(2)
+    (2..6)
+        .rev()
+        .find(|n| n * (n - 1) / 2 <= arrows)
+        .unwrap_or(2)
 }
 
 /// So many arrows between few points, some of them twice.
 pub fn dense(many: usize, random: &mut Random) -> Vec<Arrow> {
     let points = random.between(2, 6);
     let arrow = |_| (random.below(points), random.below(points));
-    (0..many).map(arrow).collect()
+    numbered((0..many).map(arrow).collect())
+}
+
+/// The graph with its points numbered as they come, so that none is left out: a book has no
+/// variables to spare.
+fn numbered(arrows: Vec<Arrow>) -> Vec<Arrow> {
+    let mut met = Vec::new();
+    let mut number = |point: usize| {
+        let known = met.iter().position(|&other| other == point);
+        known.unwrap_or_else(|| {
+            met.push(point);
+            met.len() - 1
+        })
+    };
+    let arrows = arrows.into_iter();
+    arrows.map(|(a, b)| (number(a), number(b))).collect()
 }
 
 /// A part, and so many arrows in all: those that have nothing to do with it stand before it,
