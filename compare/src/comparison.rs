@@ -2,6 +2,7 @@
 
 use crate::limit::{timed, Longest, ALL, BOOK_STEPS};
 use crate::output::{Asking, Output, LENT};
+use crate::overdue::Notes;
 use crate::show::{first_lines, printed, shown};
 use crate::shrink::shrunk;
 use crate::side::{Side, SECOND};
@@ -26,6 +27,8 @@ pub struct Comparison<'s> {
     steps: u64,
     /// The first side's longest call.
     pub longest: Longest<String>,
+    /// And the one under way.
+    notes: Notes,
     /// How many of the books have another form, which was compared too.
     pub in_both_forms: usize,
     /// What the second program took, then each side.
@@ -49,6 +52,7 @@ impl<'s> Comparison<'s> {
             passed_over: 0,
             steps: ALL,
             longest: Longest::within(most),
+            notes: Notes::default(),
             in_both_forms: 0,
             spent: vec![Duration::ZERO; 1 + sides.len()],
             slowest: (Duration::ZERO, String::new()),
@@ -190,13 +194,19 @@ impl<'s> Comparison<'s> {
         name: &str,
         bytes: &[u8],
     ) -> Result<Output, String> {
-        let (start, side) = (Instant::now(), &self.sides[number]);
-        let (theirs, took) = timed(|| Output::of(side, asking, bytes, room));
-        self.took(1 + number, start, name);
-        if number == 0 {
-            let late = |what| format!("{what}: {} on {name}\n{}", side.name, shown(bytes));
-            self.longest.count(took, || name.into()).map_err(late)?;
+        let (start, side) = (Instant::now(), self.sides[number]);
+        let call = || timed(|| Output::of(&side, asking, bytes, room));
+        if number > 0 {
+            let (theirs, _) = call();
+            self.took(1 + number, start, name);
+            return Ok(theirs);
         }
+        let book = (name.to_string(), bytes.to_vec());
+        let told = move || format!("{} on {}\n{}", side.name, book.0, shown(&book.1));
+        let (theirs, took) = self.notes.during(Box::new(told.clone()), call);
+        self.took(1, start, name);
+        let late = |what| format!("{what}: {}", told());
+        self.longest.count(took, || name.into()).map_err(late)?;
         Ok(theirs)
     }
 

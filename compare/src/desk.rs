@@ -2,6 +2,7 @@
 
 use crate::against::Against;
 use crate::limit::{timed, Longest, ALL, PAIR_STEPS};
+use crate::overdue::Notes;
 use crate::side::{Desk, OfRecords, Side, SECOND};
 use second::budget::within;
 use second::desk::question_of;
@@ -23,6 +24,8 @@ pub struct Pairs<'s> {
     pub passed_over: usize,
     /// The first side's longest call.
     pub longest: Longest<Pair>,
+    /// And the one under way.
+    notes: Notes,
 }
 
 impl<'s> Pairs<'s> {
@@ -34,6 +37,7 @@ impl<'s> Pairs<'s> {
             compared: 0,
             passed_over: 0,
             longest: Longest::within(most),
+            notes: Notes::default(),
         }
     }
 
@@ -67,17 +71,20 @@ impl<'s> Pairs<'s> {
 
     /// What the side of this number says; too late is an error.
     fn side_says(&mut self, number: usize, pair: &Pair) -> Result<Said, String> {
-        let side = &self.sides[number];
-        let mut said = Vec::new();
-        for ask in [side.covers, side.kept] {
-            let (answer, took) = timed(|| asked(pair)(ask));
-            if number == 0 {
-                let late = |what| format!("{what}: {}\n{}", side.name, shown(pair));
-                self.longest.count(took, || pair.clone()).map_err(late)?;
-            }
-            said.push(answer);
+        let side = self.sides[number];
+        let asks = [side.covers, side.kept];
+        if number > 0 {
+            return Ok(asks.map(asked(pair)));
         }
-        Ok([said[0], said[1]])
+        let noted = pair.clone();
+        let told = move || format!("{}\n{}", side.name, shown(&noted));
+        let call = || asks.map(|ask| timed(|| asked(pair)(ask)));
+        let said = self.notes.during(Box::new(told.clone()), call);
+        for (_, took) in said {
+            let late = |what| format!("{what}: {}", told());
+            self.longest.count(took, || pair.clone()).map_err(late)?;
+        }
+        Ok(said.map(|(answer, _)| answer))
     }
 
     /// Adds what another one has.

@@ -2,7 +2,8 @@
 //!
 //! `side` names the others that are called in this process; `output` is what one says of a
 //! book, `comparison` compares it, `desk` what is said of pairs of records; `generated` makes
-//! books and pairs, `blocks` spreads them over threads, and `limit` says what takes too long.
+//! books and pairs, `blocks` spreads them over threads; `limit` and `overdue` say what takes too
+//! long.
 //! `against` starts another program, `programs` compares it. `shrink` and `show` make a
 //! difference small and readable; `asked` reads the command lines.
 
@@ -14,6 +15,7 @@ pub mod desk;
 pub mod generated;
 pub mod limit;
 pub mod output;
+pub mod overdue;
 pub mod programs;
 pub mod show;
 pub mod shrink;

@@ -5,6 +5,7 @@ use compare::comparison::{answered, Comparison};
 use compare::desk::{answered as answered_pair, Pairs};
 use compare::generated::{edge_books, edge_pairs, ordinary_pairs};
 use compare::output::takes_small_output;
+use compare::overdue::{overdue, Notes};
 use compare::side::{told as sides_told, Answered, Desk, OfBook, Side, PLAIN, PROVED, SIDES};
 use compare::Named;
 use second::copying::{to_new, to_old};
@@ -396,6 +397,20 @@ fn a_slow_side_is_caught_if_it_is_the_first() {
     let mut patient = Comparison::limited(&sides, most);
     assert_eq!(patient.compare_edges(&edges), Ok(()));
     assert_eq!(patient.longest.on(), Some(&edges[0].0));
+}
+
+#[test]
+fn a_call_that_does_not_end_is_told_of_while_it_is_under_way() {
+    let (soon, late) = (Duration::from_millis(1), Duration::from_secs(600));
+    let notes = Notes::default();
+    let told = notes.during(Box::new(|| "the call of this test".into()), || {
+        std::thread::sleep(Duration::from_millis(20));
+        assert_eq!(overdue(late), None);
+        overdue(soon)
+    });
+    // Another test's call may be under way too.
+    assert!(told.is_some());
+    assert_ne!(overdue(soon), Some("the call of this test".into()));
 }
 
 #[test]

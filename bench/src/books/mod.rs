@@ -1,7 +1,9 @@
-//! The books: four ordinary kinds in three sizes, books in the new form, and the worst ones known.
+//! The books: four ordinary kinds in three sizes, books in the new form, the worst ones known, and
+//! edge books at their largest.
 
 mod choices;
 mod climbed;
+mod edges;
 mod late;
 mod members;
 mod ontology;
@@ -31,4 +33,9 @@ pub fn ordinary() -> Vec<Task> {
 pub fn worst() -> Vec<Task> {
     let books = choices::books().into_iter().chain(late::books());
     books.map(Words::task).chain(climbed::books()).collect()
+}
+
+/// Edge books.
+pub fn edges() -> Vec<Task> {
+    edges::books().into_iter().map(Words::task).collect()
 }

@@ -7,8 +7,8 @@ pub use second::edges::changed;
 pub use timer::{serve, Timer, CHILD};
 
 use second::book::{self, Book};
-use second::generate;
 use second::random::Random;
+use second::{edges, generate};
 use std::time::{Duration, Instant};
 
 /// Changes that bring nothing before the climb begins anew elsewhere.
@@ -26,7 +26,8 @@ pub struct Slowest {
     pub tried: usize,
 }
 
-/// Climbs for so long, from one random book after another; ends early where the limit is met.
+/// Climbs for so long, from one book after another, every other one an edge book; ends early where
+/// the limit is met.
 pub fn climb(timer: &mut Timer, seed: u64, long: Duration) -> Result<Slowest, String> {
     let began = Instant::now();
     let mut random = Random::new(seed);
@@ -41,12 +42,15 @@ pub fn climb(timer: &mut Timer, seed: u64, long: Duration) -> Result<Slowest, St
     Ok(best)
 }
 
-/// A book to begin with, which may explore as much as there is.
-fn start(random: &mut Random) -> Book {
-    let allowed = 1000;
+/// A book to begin with, an edge book or any, which may explore as much as there is.
+pub fn start(random: &mut Random) -> Book {
+    let book = match random.percent(50) {
+        true => edges::book(random),
+        false => generate::sound(random),
+    };
     Book {
-        allowed,
-        ..generate::sound(random)
+        allowed: 1000,
+        ..book
     }
 }
 

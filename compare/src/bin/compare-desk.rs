@@ -12,6 +12,7 @@ use compare::asked::Asked;
 use compare::blocks::{each_block, rate, BLOCK};
 use compare::desk::{answered, compare_batch, shown, Pairs};
 use compare::generated::{edge_pairs, ordinary_pairs, shares};
+use compare::overdue::look_after;
 use compare::side::{told, SIDES};
 use second::kinds::Kinds;
 use std::process::ExitCode;
@@ -56,6 +57,7 @@ fn compare_all(asked: Asked) -> Result<(Compared, String), String> {
         let count = compare_batches(against, asked.seed)?;
         println!("the batch program: {count} pairs");
     }
+    asked.limit.into_iter().for_each(look_after);
     let start = Instant::now();
     let nothing = || Compared {
         pairs: Pairs::limited(SIDES, asked.limit),

@@ -13,6 +13,7 @@ use compare::blocks::{each_block, rate, BLOCK};
 use compare::comparison::{answered, Comparison};
 use compare::generated::{edge_books, ordinary_books, shares};
 use compare::output::takes_small_output;
+use compare::overdue::look_after;
 use compare::programs::{compare_batch, compare_copier, compare_program};
 use compare::side::{told, SIDES};
 use compare::Named;
@@ -102,6 +103,7 @@ fn compare_block(part: &mut Comparison, seed: u64, many: usize) -> Result<(), St
 
 /// Runs the whole comparison; how quickly it went.
 fn compare_all(asked: Asked) -> Result<(Comparison<'static>, String), String> {
+    asked.limit.into_iter().for_each(look_after);
     let nothing = || Comparison::limited(SIDES, asked.limit);
     let mut comparison = nothing();
     let (kept, made) = (kept_books(&asked.books)?, limits::books());

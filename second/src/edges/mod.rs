@@ -19,6 +19,7 @@ mod pairs;
 mod parts;
 mod rounds;
 
+pub use atoms::{Drawn, Filling};
 pub use books::book;
 pub use change::changed;
 pub use pairs::pair;
