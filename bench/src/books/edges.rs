@@ -1,11 +1,54 @@
 //! Edge books, each as large as is legal: 32 rules, heads of four atoms, eight question atoms. The
 //! second program makes such books at random, `second::edges`; these stand for their kinds.
 
+use super::climbed;
 use super::text::{atoms, widening, Words};
-use crate::task::Pace;
+use crate::task::{Pace, Task};
 
 /// The books.
-pub fn books() -> Vec<Words> {
+pub fn books() -> Vec<Task> {
+    let found = FOUND.iter().map(|found| climbed::task(KIND, found));
+    thought_of()
+        .into_iter()
+        .map(Words::task)
+        .chain(found)
+        .collect()
+}
+
+/// What they are called in the table.
+const KIND: &str = "edges";
+
+/// The slowest that the comparer met, as they were made, each with its name.
+const FOUND: [(&str, Pace, &str); 5] = [
+    (
+        "edges-found-unrelated-then-clique",
+        Pace::Slow,
+        include_str!("../../books/edge-unrelated-then-clique.txt"),
+    ),
+    (
+        "edges-found-valid-in-rounds",
+        Pace::Slow,
+        include_str!("../../books/edge-valid-in-rounds.txt"),
+    ),
+    (
+        "edges-found-answered-in-rounds",
+        Pace::Slow,
+        include_str!("../../books/edge-answered-in-rounds.txt"),
+    ),
+    (
+        "edges-found-answered",
+        Pace::Heavy,
+        include_str!("../../books/edge-answered.txt"),
+    ),
+    (
+        "edges-found-answered-star",
+        Pace::Heavy,
+        include_str!("../../books/edge-answered-star.txt"),
+    ),
+];
+
+/// Those that were thought of.
+fn thought_of() -> Vec<Words> {
     let all = |head: &str, question: &str| (many(32, head), question.to_string());
     let books = [
         ("unrelated-6-then-ring", unrelated()),
@@ -29,12 +72,21 @@ pub fn books() -> Vec<Words> {
 /// A book of these rules and this question.
 fn words((name, (rules, question)): (&str, (Vec<String>, String))) -> Words {
     Words {
-        kind: "edges",
+        kind: KIND,
         name: format!("edges-{name}"),
         rules,
         question,
         allowed: 1000,
-        pace: Pace::Ordinary,
+        pace: pace(name),
+    }
+}
+
+/// How long it takes.
+fn pace(name: &str) -> Pace {
+    match name {
+        "knot-many-rounds" => Pace::Slow,
+        "knot" | "equal-heads-third-shared" => Pace::Heavy,
+        _ => Pace::Ordinary,
     }
 }
 

@@ -12,6 +12,7 @@ mod six;
 mod text;
 mod words;
 
+pub use edges::books as edges;
 pub use six::books as new_form;
 pub use text::Words;
 
@@ -33,9 +34,4 @@ pub fn ordinary() -> Vec<Task> {
 pub fn worst() -> Vec<Task> {
     let books = choices::books().into_iter().chain(late::books());
     books.map(Words::task).chain(climbed::books()).collect()
-}
-
-/// Edge books.
-pub fn edges() -> Vec<Task> {
-    edges::books().into_iter().map(Words::task).collect()
 }
