@@ -278,7 +278,7 @@ fn both(
 
 /// The steps that the second program may take for a smaller book: as many as for any ordinary one,
 /// but a book that is smaller need not be quicker.
-const SMALLER_STEPS: u64 = 100 * BOOK_STEPS;
+const SMALLER_STEPS: u64 = 300 * BOOK_STEPS;
 
 /// A difference between two, on as small a book as can be found.
 fn difference(

@@ -7,9 +7,9 @@ use std::time::Duration;
 /// Whatever it takes.
 pub const ALL: u64 = u64::MAX;
 
-/// The steps that the second program may take for an edge book: some hundredths of a second. More
-/// would answer few more of them, and take the time of many ordinary ones.
-pub const BOOK_STEPS: u64 = 1_000_000;
+/// The steps that the second program may take for an edge book: a few hundredths of a second. Ten
+/// times as many would answer half as many more of them, in the time of many ordinary ones.
+pub const BOOK_STEPS: u64 = 300_000;
 
 /// The steps that it may take for an edge pair.
 pub const PAIR_STEPS: u64 = 20_000;

@@ -26,8 +26,8 @@ pub struct Slowest {
     pub tried: usize,
 }
 
-/// Climbs for so long, from one book after another, every other one an edge book; ends early where
-/// the limit is met.
+/// Climbs for so long, each time from the slowest of some books, of which every other one is an edge
+/// book; ends early where the limit is met.
 pub fn climb(timer: &mut Timer, seed: u64, long: Duration) -> Result<Slowest, String> {
     let began = Instant::now();
     let mut random = Random::new(seed);
@@ -36,7 +36,7 @@ pub fn climb(timer: &mut Timer, seed: u64, long: Duration) -> Result<Slowest, St
         time: Some(0),
         tried: 0,
     };
-    while best.time.is_some() && began.elapsed() < long {
+    while best.goes_on(began + long) {
         one_climb(timer, &mut random, &mut best, began + long)?;
     }
     Ok(best)
@@ -54,6 +54,48 @@ pub fn start(random: &mut Random) -> Book {
     }
 }
 
+impl Slowest {
+    /// Times a book and keeps it if it is the slowest so far; its nanoseconds, more than any if it
+    /// was stopped at the limit.
+    fn tried(&mut self, timer: &mut Timer, next: &Book) -> Result<u64, String> {
+        let time = timer.time(&book::write(next))?;
+        self.tried += 1;
+        let reached = time.unwrap_or(u64::MAX);
+        if reached > self.time.unwrap_or(u64::MAX) {
+            (self.book, self.time) = (next.clone(), time);
+        }
+        Ok(reached)
+    }
+
+    /// Whether there is more to find before this moment.
+    fn goes_on(&self, end: Instant) -> bool {
+        self.time.is_some() && Instant::now() < end
+    }
+}
+
+/// Books of which the slowest is where a climb begins.
+const STARTS: usize = 20;
+
+/// The slowest of some books to begin with, and its time.
+fn slow_start(
+    timer: &mut Timer,
+    random: &mut Random,
+    best: &mut Slowest,
+    end: Instant,
+) -> Result<(Book, u64), String> {
+    let mut slowest = (start(random), 0);
+    for _ in 0..STARTS {
+        if best.goes_on(end) {
+            let next = start(random);
+            let reached = best.tried(timer, &next)?;
+            if reached > slowest.1 {
+                slowest = (next, reached);
+            }
+        }
+    }
+    Ok(slowest)
+}
+
 /// One climb from a new book, until patience or time is over.
 fn one_climb(
     timer: &mut Timer,
@@ -61,21 +103,15 @@ fn one_climb(
     best: &mut Slowest,
     end: Instant,
 ) -> Result<(), String> {
-    let mut now = start(random);
-    let mut here = 0;
+    let (mut now, mut here) = slow_start(timer, random, best, end)?;
     let mut patience = PATIENCE;
-    while patience > 0 && best.time.is_some() && Instant::now() < end {
+    while patience > 0 && best.goes_on(end) {
         let next = changed(&now, random);
-        let time = timer.time(&book::write(&next))?;
-        best.tried += 1;
-        let reached = time.unwrap_or(u64::MAX);
+        let reached = best.tried(timer, &next)?;
         patience = match reached > here {
             true => PATIENCE,
             false => patience - 1,
         };
-        if reached > best.time.unwrap_or(u64::MAX) {
-            (best.book, best.time) = (next.clone(), time);
-        }
         if reached as f64 >= here as f64 * LEVEL {
             (now, here) = (next, here.max(reached));
         }

@@ -15,8 +15,9 @@ use crate::width::{Width, WIDTHS};
 const RULES: usize = 32;
 const ATOMS: usize = 8;
 
-/// In a hundred: books with words and widening, with a question about named things, with answer
-/// places, and changed in one place.
+/// In a hundred: books whose question has as many atoms as may be, with words and widening, with a
+/// question about named things, with answer places, and changed in one place.
+const FULL: usize = 35;
 const IN_ROUNDS: usize = 30;
 const NAMED: usize = 12;
 const ANSWERED: usize = 25;
@@ -88,11 +89,11 @@ struct Making {
 }
 
 impl Making {
-    /// Puts the question's arrows, in half of the cases as many as may be; one fewer where a word
-    /// is asked too. Now and then the points that they come from are named things.
+    /// Puts the question's arrows, often as many as may be; one fewer where a word is asked too. Now
+    /// and then the points that they come from are named things.
     fn ask(&mut self, drawn: Drawn, rounds: bool, random: &mut Random) {
         let most = ATOMS - rounds as usize;
-        let many = match random.percent(50) {
+        let many = match random.percent(FULL) {
             true => most,
             false => random.between(2, most),
         };
