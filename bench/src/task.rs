@@ -54,10 +54,12 @@ pub fn wanted(wants: Wants) -> Vec<Task> {
     let books = crate::books::ordinary().into_iter();
     let books = books.chain(crate::books::new_form());
     let books = books.chain(crate::books::worst());
-    let hard = crate::pairs::hard();
+    let books = books.chain(crate::books::edges());
+    let hard = crate::pairs::hard().into_iter();
+    let hard = hard.chain(crate::pairs::edges());
     let made = |task: &Task| wants(&task.name, task.pace);
     let mut tasks: Vec<Task> = books.filter(made).collect();
     tasks.extend(crate::pairs::taken(wants));
-    tasks.extend(hard.into_iter().filter(made));
+    tasks.extend(hard.filter(made));
     tasks
 }

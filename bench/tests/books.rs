@@ -1,11 +1,13 @@
 //! The books are what their names say, and both sides answer them as the second program does.
 
-use bench::books::{new_form, ordinary, worst, SIZES};
+use bench::books::{edges, new_form, ordinary, worst, SIZES};
 use bench::check::{agreed, answer, counts};
+use bench::pairs;
 use bench::sides::{PROVED, ROOM};
 use bench::task::{wanted, Pace, Task, Work};
 use second::book;
 use second::seen::Seen;
+use second::term::Rule;
 use second::width::Width;
 use std::collections::BTreeSet;
 
@@ -20,7 +22,8 @@ fn read(task: &Task) -> book::Book {
 
 #[test]
 fn every_book_is_sound_and_has_its_rules() {
-    for task in ordinary().iter().chain(&new_form()).chain(&worst()) {
+    let (ordinary, new, worst, edges) = (ordinary(), new_form(), worst(), edges());
+    for task in ordinary.iter().chain(&new).chain(&worst).chain(&edges) {
         assert_eq!(read(task).rules.len(), task.rules, "{}", task.name);
     }
 }
@@ -93,6 +96,38 @@ fn books_in_the_new_form_are_complete_and_of_their_kind() {
 }
 
 #[test]
+fn edge_books_are_as_large_as_is_legal() {
+    let books = edges();
+    assert!(books.len() >= 12);
+    for task in books.iter().filter(|task| !task.name.contains("found")) {
+        let book = read(task);
+        assert_eq!(book.question.atoms.len(), 8, "{}", task.name);
+        let full = |rule: &Rule| rule.head.len() == 4;
+        assert!(book.rules.iter().any(full), "{}", task.name);
+        let few = task.name.contains("unrelated");
+        assert_eq!(book.rules.len() == 32, !few, "{}", task.name);
+    }
+    let wide = books.iter().filter(|t| read(t).width == Width::Six);
+    assert!(wide.count() >= 2);
+}
+
+#[test]
+fn edge_pairs_have_eleven_atoms_each() {
+    let tasks = pairs::edges();
+    for task in &tasks {
+        let Work::Covers(_, pairs) = &task.work else {
+            panic!("{} is no pair", task.name);
+        };
+        let sizes = pairs.iter().map(|(a, b)| a[0].min(b[0]));
+        assert!(sizes.into_iter().all(|least| least >= 10), "{}", task.name);
+        let covers = answer(task, &PROVED);
+        let same = task.name.contains("same");
+        assert_eq!(covers == [1], same, "{}", task.name);
+    }
+    assert!(tasks.len() >= 8);
+}
+
+#[test]
 fn the_longest_run_takes_up_a_thousand() {
     let tasks = worst();
     let long = tasks.iter().find(|task| task.name == "explorations-1000");
@@ -133,6 +168,7 @@ fn is_quick_for_brute_force(name: &str, pace: Pace) -> bool {
         "many-rounds",
         "pair-unrelated",
         "pair-leaves",
+        "edges-",
     ];
     let is_slow = slow.iter().any(|part| name.contains(part));
     pace == Pace::Ordinary && (!is_slow || name == "many-rounds-8-widened")

@@ -1,6 +1,6 @@
 //! The changes by which the search climbs.
 
-use bench::climb::changed;
+use bench::climb::{changed, start};
 use second::book;
 use second::generate::sound;
 use second::random::Random;
@@ -31,4 +31,20 @@ fn the_same_seed_climbs_alike() {
     };
     assert_eq!(walk(1), walk(1));
     assert_ne!(walk(1), walk(2));
+}
+
+#[test]
+fn climbs_begin_from_edge_books_and_from_any() {
+    let mut random = Random::new(6);
+    let starts: Vec<book::Book> = (0..200).map(|_| start(&mut random)).collect();
+    assert!(starts.iter().all(|book| book.allowed == 1000));
+    // All rules and a whole question over one relation: no ordinary book is so.
+    let full = |book: &&book::Book| {
+        let asked = &book.question.atoms;
+        let one = asked.iter().all(|atom| atom.relation == asked[0].relation);
+        book.rules.len() == 32 && asked.len() == 8 && one
+    };
+    assert!(starts.iter().filter(full).count() >= 3);
+    let facts = |book: &&book::Book| book.rules.iter().filter(|r| r.is_fact()).count() > 2;
+    assert!(starts.iter().filter(facts).count() >= 3);
 }

@@ -6,7 +6,7 @@ use std::path::PathBuf;
 use std::time::{Duration, Instant};
 
 /// The words that every comparer knows, each with a number after it.
-const NUMBERS: &[&str] = &["--seconds", "--count", "--seed", "--threads"];
+const NUMBERS: &[&str] = &["--seconds", "--count", "--seed", "--threads", "--limit"];
 
 /// What is asked for; what is not said has its usual value.
 pub struct Asked {
@@ -20,6 +20,8 @@ pub struct Asked {
     pub count: Option<u64>,
     pub seed: u64,
     pub threads: u64,
+    /// How much processor time a call of the proved routines may take.
+    pub limit: Option<Duration>,
 }
 
 impl Default for Asked {
@@ -35,6 +37,7 @@ impl Default for Asked {
             count: None,
             seed: 1,
             threads: processors() as u64,
+            limit: None,
         }
     }
 }
@@ -71,6 +74,7 @@ impl Asked {
             "--count" => self.count = Some(number()?),
             "--seed" => self.seed = number()?,
             "--threads" => self.threads = number()?,
+            "--limit" => self.limit = Some(seconds(&value).ok_or("--limit wants seconds")?),
             _ => return Err(format!("{word} is not known")),
         }
         Ok(())
@@ -84,6 +88,12 @@ impl Asked {
         };
         (self.seed, until, self.threads as usize)
     }
+}
+
+/// So many seconds, which need not be whole ones.
+fn seconds(value: &str) -> Option<Duration> {
+    let seconds = value.parse().ok()?;
+    Duration::try_from_secs_f64(seconds).ok()
 }
 
 /// The program of this command line.

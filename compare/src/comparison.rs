@@ -1,10 +1,13 @@
 //! Comparing the second program with the others in one process.
 
+use crate::limit::{timed, Longest, ALL, BOOK_STEPS};
 use crate::output::{Asking, Output, LENT};
+use crate::overdue::Notes;
 use crate::show::{first_lines, printed, shown};
 use crate::shrink::shrunk;
-use crate::side::Side;
+use crate::side::{Side, SECOND};
 use crate::Named;
+use second::budget::within;
 use second::layout::width_of;
 use second::seen::Seen;
 use second::union;
@@ -16,6 +19,16 @@ pub struct Comparison<'s> {
     sides: &'s [Side],
     pub seen: Seen,
     pub compared: usize,
+    /// How many of the books are edge books.
+    pub edges: usize,
+    /// On how many the second program gave up: there the others are compared with each other.
+    pub passed_over: usize,
+    /// The steps that the second program may take for the book at hand; 0 once it gave up.
+    steps: u64,
+    /// The first side's longest call.
+    pub longest: Longest<String>,
+    /// And the one under way.
+    notes: Notes,
     /// How many of the books have another form, which was compared too.
     pub in_both_forms: usize,
     /// What the second program took, then each side.
@@ -26,10 +39,20 @@ pub struct Comparison<'s> {
 impl<'s> Comparison<'s> {
     /// Nothing compared yet.
     pub fn new(sides: &'s [Side]) -> Comparison<'s> {
+        Comparison::limited(sides, None)
+    }
+
+    /// The same, with the most processor time that a call of the first side may take.
+    pub fn limited(sides: &'s [Side], most: Option<Duration>) -> Comparison<'s> {
         Comparison {
             sides,
             seen: Seen::default(),
             compared: 0,
+            edges: 0,
+            passed_over: 0,
+            steps: ALL,
+            longest: Longest::within(most),
+            notes: Notes::default(),
             in_both_forms: 0,
             spent: vec![Duration::ZERO; 1 + sides.len()],
             slowest: (Duration::ZERO, String::new()),
@@ -38,9 +61,23 @@ impl<'s> Comparison<'s> {
 
     /// Compares all on the books; the first difference, told.
     pub fn compare(&mut self, books: &[Named]) -> Result<(), String> {
-        books
-            .iter()
-            .try_for_each(|(name, bytes)| self.compare_one(name, bytes))
+        self.compare_within(ALL, books)
+    }
+
+    /// The same on edge books, where the second program may give up.
+    pub fn compare_edges(&mut self, books: &[Named]) -> Result<(), String> {
+        self.edges += books.len();
+        self.compare_within(BOOK_STEPS, books)
+    }
+
+    /// The same where the second program takes no more than so many steps for a book.
+    fn compare_within(&mut self, steps: u64, books: &[Named]) -> Result<(), String> {
+        for (name, bytes) in books {
+            self.steps = steps;
+            self.compare_one(name, bytes)?;
+            self.passed_over += (self.steps == 0) as usize;
+        }
+        Ok(())
     }
 
     /// Compares all on one book, its run and its copies, and on its other form if it has one.
@@ -96,7 +133,8 @@ impl<'s> Comparison<'s> {
         Ok(())
     }
 
-    /// Asks all the same of a book in so much room; what the second program says.
+    /// Asks all the same of a book in so much room; what they say. Each is compared with the second
+    /// program or, if that gave up, with the first of the others.
     fn asked(
         &mut self,
         asking: Asking,
@@ -104,22 +142,72 @@ impl<'s> Comparison<'s> {
         name: &str,
         bytes: &[u8],
     ) -> Result<Output, String> {
-        let start = Instant::now();
-        let mine = Output::of_second(asking, bytes, room, &mut self.seen);
-        self.took(0, start, name);
-        if !mine.leaves_the_rest() {
-            return Err(format!("the second program touches too much on {name}"));
-        }
+        let second = self.second_says(asking, room, name, bytes);
+        let mut said = second.map(|output| (SECOND, output));
         let sides = self.sides;
         for (number, side) in sides.iter().enumerate() {
-            let start = Instant::now();
-            let theirs = Output::of(side, asking, bytes, room);
-            self.took(1 + number, start, name);
-            if theirs != mine {
-                return Err(difference(side, asking, room, name, bytes));
+            let theirs = self.side_says(number, asking, room, name, bytes)?;
+            match &said {
+                None => said = Some((*side, theirs)),
+                Some((_, mine)) if *mine == theirs => (),
+                Some((one, _)) => return Err(difference(one, side, asking, room, name, bytes)),
             }
         }
-        Ok(mine)
+        match said {
+            None => Err(format!("nobody says anything of {name}")),
+            Some((who, output)) if !output.leaves_the_rest() => {
+                Err(format!("{} touches too much on {name}", who.name))
+            }
+            Some((_, output)) => Ok(output),
+        }
+    }
+
+    /// What the second program says; nothing if it gave up, now or on the same book before. What it
+    /// met before it gave up was not compared, and does not count.
+    fn second_says(
+        &mut self,
+        asking: Asking,
+        room: usize,
+        name: &str,
+        bytes: &[u8],
+    ) -> Option<Output> {
+        let (start, mut seen) = (Instant::now(), Seen::default());
+        let steps = match asking {
+            Asking::Run => self.steps,
+            Asking::Copy(_) => ALL,
+        };
+        let said = within(steps, || Output::of_second(asking, bytes, room, &mut seen));
+        self.took(0, start, name);
+        match said.is_some() {
+            true => self.seen.add(&seen),
+            false => self.steps = 0,
+        }
+        said
+    }
+
+    /// What the side of this number says; too late is an error.
+    fn side_says(
+        &mut self,
+        number: usize,
+        asking: Asking,
+        room: usize,
+        name: &str,
+        bytes: &[u8],
+    ) -> Result<Output, String> {
+        let (start, side) = (Instant::now(), self.sides[number]);
+        let call = || timed(|| Output::of(&side, asking, bytes, room));
+        if number > 0 {
+            let (theirs, _) = call();
+            self.took(1 + number, start, name);
+            return Ok(theirs);
+        }
+        let book = (name.to_string(), bytes.to_vec());
+        let told = move || format!("{} on {}\n{}", side.name, book.0, shown(&book.1));
+        let (theirs, took) = self.notes.during(Box::new(told.clone()), call);
+        self.took(1, start, name);
+        let late = |what| format!("{what}: {}", told());
+        self.longest.count(took, || name.into()).map_err(late)?;
+        Ok(theirs)
     }
 
     /// Counts what one of them took since the start.
@@ -135,6 +223,9 @@ impl<'s> Comparison<'s> {
     pub fn add(&mut self, other: &Comparison) {
         self.seen.add(&other.seen);
         self.compared += other.compared;
+        self.edges += other.edges;
+        self.passed_over += other.passed_over;
+        self.longest.add(&other.longest);
         self.in_both_forms += other.in_both_forms;
         for (mine, theirs) in self.spent.iter_mut().zip(&other.spent) {
             *mine += *theirs;
@@ -147,7 +238,7 @@ impl<'s> Comparison<'s> {
     /// A line with what each took for a thousand books.
     pub fn times(&self) -> String {
         let names = self.sides.iter().map(|side| side.name);
-        let each = ["the second program"].into_iter().chain(names);
+        let each = [SECOND.name].into_iter().chain(names);
         let took = |(name, spent): (&str, &Duration)| {
             let seconds = spent.as_secs_f64() * 1000.0 / self.compared as f64;
             format!("{name} {seconds:.3} s")
@@ -155,6 +246,11 @@ impl<'s> Comparison<'s> {
         let times: Vec<String> = each.zip(&self.spent).map(took).collect();
         format!("a thousand books take {}", times.join(", "))
     }
+}
+
+/// Whether the second program answers an edge book, and does not give up.
+pub fn answered(book: &[u8]) -> bool {
+    within(BOOK_STEPS, || printed(book)).is_some()
 }
 
 /// Whether two runs are of one book in two forms: the same refusal at the same place, or the same
@@ -168,27 +264,46 @@ fn are_alike(one: &Output, width: Width, other: &Output, other_width: Width) -> 
     }
 }
 
-/// What the second program and another say of a book.
-fn both(side: &Side, asking: Asking, room: usize, bytes: &[u8]) -> (Output, Output) {
-    let mine = Output::of_second(asking, bytes, room, &mut Seen::default());
-    (mine, Output::of(side, asking, bytes, room))
+/// What two say of a book; nothing if the second program, for which this is as on an edge book,
+/// gives up on it.
+fn both(
+    [one, other]: [&Side; 2],
+    asking: Asking,
+    room: usize,
+    bytes: &[u8],
+) -> Option<(Output, Output)> {
+    let mine = within(SMALLER_STEPS, || Output::of(one, asking, bytes, room))?;
+    Some((mine, Output::of(other, asking, bytes, room)))
 }
 
-/// A difference, on as small a book as can be found.
-fn difference(side: &Side, asking: Asking, room: usize, name: &str, bytes: &[u8]) -> String {
-    let differ = |bytes: &Vec<u8>| {
-        let (mine, theirs) = both(side, asking, room, bytes);
-        mine != theirs
-    };
+/// The steps that the second program may take for a smaller book: as many as for any ordinary one,
+/// but a book that is smaller need not be quicker.
+const SMALLER_STEPS: u64 = 300 * BOOK_STEPS;
+
+/// A difference between two, on as small a book as can be found.
+fn difference(
+    one: &Side,
+    other: &Side,
+    asking: Asking,
+    room: usize,
+    name: &str,
+    bytes: &[u8],
+) -> String {
+    let both = |bytes: &[u8]| both([one, other], asking, room, bytes);
+    let differ = |bytes: &Vec<u8>| both(bytes).is_some_and(|(mine, theirs)| mine != theirs);
     let small = shrunk(bytes, |smaller| smaller.iter().position(differ));
-    let (mine, theirs) = both(side, asking, room, &small);
+    let (words, shown) = (asking.words(), shown(&small));
+    let told = format!("DIFFERENCE on {name}, {words} in {room} bytes, made smaller:\n{shown}");
+    let Some((mine, theirs)) = both(&small) else {
+        return format!("{told}{} gave up on it", one.name);
+    };
+    let union = within(SMALLER_STEPS, || first_lines(&printed(&small)));
     format!(
-        "DIFFERENCE on {name}, {} in {room} bytes, made smaller:\n{}second program: {}\n{}{}: {}\n",
-        asking.words(),
-        shown(&small),
+        "{told}{}: {}\n{}{}: {}\n",
+        one.name,
         mine.told_beside(&theirs),
-        first_lines(&printed(&small)),
-        side.name,
+        union.unwrap_or_default(),
+        other.name,
         theirs.told_beside(&mine),
     )
 }

@@ -1,6 +1,8 @@
 //! The implementations that the second program is compared with, each called in this process.
 
 use rauntiko::raw;
+use second::copying::{to_new, to_old};
+use second::{desk, run};
 
 /// What a run or a copy answers: the number and the place.
 pub type Answered = (u8, usize);
@@ -62,12 +64,33 @@ pub const PLAIN: Side = Side {
     kept: |first, second, width| (plain::kept(first, second, width), None),
 };
 
-/// All of them.
+/// The numbers of the second program's answer.
+fn of_second(answer: run::Answer) -> Answered {
+    (answer.number as u8, answer.place)
+}
+
+/// The second program itself, as what the others are compared with.
+pub const SECOND: Side = Side {
+    name: "the second program",
+    run: |book, out| of_second(run::run(book, out)),
+    to_new: |book, out| of_second(to_new(book, out)),
+    to_old: |book, out| of_second(to_old(book, out)),
+    covers: |first, second, width| {
+        let covered = desk::covers(first, second, width);
+        (covered.number, Some(covered.map))
+    },
+    kept: |first, second, width| {
+        let kept = desk::kept(first, second, width);
+        (kept.which, Some(kept.map))
+    },
+};
+
+/// All that it is compared with, the proved routines first.
 pub const SIDES: &[Side] = &[PROVED, PLAIN];
 
 /// A line with how many there are, the second program among them, and who.
 pub fn told(sides: &[Side]) -> String {
     let names = sides.iter().map(|side| side.name);
-    let all: Vec<&str> = ["the second program"].into_iter().chain(names).collect();
+    let all: Vec<&str> = [SECOND.name].into_iter().chain(names).collect();
     format!("{} sides: {}", all.len(), all.join(", "))
 }

@@ -1,6 +1,7 @@
 //! The comparer as a command, the programs that it starts, and the shrinking.
 
 use compare::against::Against;
+use compare::generated::ordinary_pairs;
 use compare::programs::{compare_batch, compare_copier, compare_program};
 use compare::{shrink, Named};
 use second::print::print;
@@ -46,7 +47,7 @@ fn the_batch_program_answers_each_book() {
 
 #[test]
 fn the_batch_program_answers_each_pair() {
-    let pairs = compare::desk::generated(9, 2000);
+    let pairs = ordinary_pairs(9, 2000);
     let framed = pairs.iter().filter_map(|pair| Some((pair, pair.frame()?)));
     let (asked, frames): (Vec<_>, Vec<_>) = framed.unzip();
     let said = program(&[BATCH, "--desk"]).say_of(frames.concat());
@@ -110,6 +111,14 @@ fn the_comparer_meets_every_behaviour_and_no_difference() {
     assert!(fine, "{text}");
     assert!(text.contains("generated: 700 books "), "{text}");
     assert!(text.contains("\n3 sides: "), "{text}");
+    assert!(
+        text.contains("\nslowest for the proved routines: "),
+        "{text}"
+    );
+    assert!(
+        text.contains("\nedge books 87, of them passed over "),
+        "{text}"
+    );
     assert!(text.trim_end().ends_with("differences 0"), "{text}");
     let nowhere = ["--count", "0", "--books", "no-such-directory"];
     let (fine, text) = command(env!("CARGO_BIN_EXE_compare"), &nowhere);
@@ -123,6 +132,10 @@ fn the_desk_is_compared_in_the_process_and_with_a_program() {
     let (fine, text) = command(path, &right);
     assert!(fine, "{text}");
     assert!(text.ends_with("pairs 5000, differences 0\n"), "{text}");
+    assert!(
+        text.contains("\nedge pairs 620, of them passed over "),
+        "{text}"
+    );
     assert!(text.contains("\n3 sides: "), "{text}");
     let (fine, text) = command(path, &["--count", "10", "--against", BATCH]);
     assert!(!fine && text.contains("DIFFERENCE"), "{text}");
@@ -131,6 +144,26 @@ fn the_desk_is_compared_in_the_process_and_with_a_program() {
     assert!(!fine && text.contains("DIFFERENCE"), "{text}");
     let (fine, text) = command(path, &["--books", "."]);
     assert!(!fine && text == "--books is not known\n", "{text}");
+}
+
+#[test]
+fn what_takes_longer_than_the_limit_is_shown() {
+    let (compare, desk) = (
+        env!("CARGO_BIN_EXE_compare"),
+        env!("CARGO_BIN_EXE_compare-desk"),
+    );
+    let (fine, text) = command(compare, &["--count", "0", "--limit", "0"]);
+    assert!(!fine && text.starts_with("TOO SLOW: "), "{text}");
+    assert!(text.contains("\nquestion r"), "{text}");
+    let (fine, text) = command(desk, &["--count", "10", "--limit", "0"]);
+    assert!(!fine && text.starts_with("TOO SLOW: "), "{text}");
+    assert!(text.contains("\nfirst ["), "{text}");
+    let (fine, text) = command(desk, &["--count", "5000", "--limit", "60.5"]);
+    assert!(fine, "{text}");
+    for wrong in ["soon", "-1"] {
+        let (fine, text) = command(desk, &["--limit", wrong]);
+        assert!(!fine && text == "--limit wants seconds\n", "{text}");
+    }
 }
 
 #[test]

@@ -1,22 +1,25 @@
 //! That an implementation in the process is caught wherever it differs, and how.
 
 use compare::blocks::{each_block, Until};
-use compare::comparison::Comparison;
-use compare::desk::{compare_pair, generated};
+use compare::comparison::{answered, Comparison};
+use compare::desk::{answered as answered_pair, Pairs};
+use compare::generated::{edge_books, edge_pairs, ordinary_pairs};
 use compare::output::takes_small_output;
+use compare::overdue::{overdue, Notes};
 use compare::side::{told as sides_told, Answered, Desk, OfBook, Side, PLAIN, PROVED, SIDES};
 use compare::Named;
 use second::copying::{to_new, to_old};
 use second::pairs::Pair;
 use second::random::Random;
 use second::run::run_by;
-use second::seen::Seen;
+use second::seen::{Behaviour, Seen};
 use second::union::record;
 use second::way::Way;
 use second::width::Width;
 use second::{desk, generate};
 use std::collections::BTreeSet;
 use std::sync::Mutex;
+use std::time::{Duration, Instant};
 
 /// The second program in a given way.
 fn by(way: Way, book: &[u8], out: &mut [u8]) -> Answered {
@@ -241,8 +244,9 @@ fn a_side_that_runs_the_new_form_otherwise_is_caught() {
 
 /// What is told of a side on generated pairs.
 fn told_of_pairs(side: Side) -> Result<(), String> {
-    let mut pairs = generated(22, 2000).into_iter();
-    pairs.try_for_each(|pair: Pair| compare_pair(&[side], &pair))
+    let (sides, mut pairs) = ([side], ordinary_pairs(22, 2000).into_iter());
+    let mut comparison = Pairs::limited(&sides, None);
+    pairs.try_for_each(|pair: Pair| comparison.compare(&pair))
 }
 
 #[test]
@@ -317,7 +321,7 @@ fn a_wrong_map_is_caught() {
 
 #[test]
 fn the_proved_routines_give_maps_and_plain_rust_gives_none() {
-    for pair in generated(23, 200) {
+    for pair in ordinary_pairs(23, 200) {
         let (first, second, width) = (&pair.first[..], &pair.second[..], pair.width);
         let (ask, keep) = (PROVED.covers, PROVED.kept);
         assert_eq!(ask(first, second, width), covers(first, second, width));
@@ -325,6 +329,114 @@ fn the_proved_routines_give_maps_and_plain_rust_gives_none() {
         assert_eq!((PLAIN.covers)(first, second, width).1, None);
         assert_eq!((PLAIN.kept)(first, second, width).1, None);
     }
+}
+
+/// Edge books on which the second program gives up, or those on which it does not.
+fn edges(given_up: bool, many: usize) -> Vec<Named> {
+    let mut books = edge_books(31, 40);
+    books.retain(|(_, book)| answered(book) != given_up);
+    books.truncate(many);
+    books
+}
+
+#[test]
+fn where_the_second_program_gives_up_the_others_are_compared() {
+    let sides = [PLAIN, PLAIN];
+    let mut comparison = Comparison::new(&sides);
+    assert_eq!(comparison.compare_edges(&edges(true, 9)), Ok(()));
+    assert_eq!(comparison.compare_edges(&edges(false, 7)), Ok(()));
+    assert_eq!((comparison.compared, comparison.edges), (16, 16));
+    assert_eq!(comparison.passed_over, 9);
+    let wrong = Side {
+        name: "a wrong one",
+        run: |book, out| match (PLAIN.run)(book, out) {
+            (0, place) => {
+                out[2] = out[2].wrapping_add(1);
+                (0, place)
+            }
+            (number, place) => (number, place + 1),
+        },
+        ..PLAIN
+    };
+    for given_up in [true, false] {
+        let sides = [PLAIN, wrong];
+        let told = Comparison::new(&sides).compare_edges(&edges(given_up, 1));
+        let told = told.unwrap_err();
+        assert!(told.starts_with("DIFFERENCE on edge book "), "{told}");
+        assert!(told.contains("\na wrong one: "), "{told}");
+        assert_eq!(told.contains("\nplain Rust: "), given_up, "{told}");
+    }
+}
+
+#[test]
+fn what_the_second_program_met_before_it_gave_up_does_not_count() {
+    let sides = [PLAIN];
+    let mut comparison = Comparison::new(&sides);
+    comparison.compare_edges(&edges(true, 5)).unwrap();
+    assert_eq!(comparison.seen.count(Behaviour::OneToOne), 0);
+    assert!(comparison.seen.count(Behaviour::CopiedToNew) > 0);
+}
+
+#[test]
+fn a_slow_side_is_caught_if_it_is_the_first() {
+    let slow = Side {
+        run: |book, out| {
+            let began = Instant::now();
+            while began.elapsed() < Duration::from_millis(60) {}
+            (PLAIN.run)(book, out)
+        },
+        ..PLAIN
+    };
+    let most = Some(Duration::from_millis(20));
+    let edges = edges(true, 1);
+    let told = Comparison::limited(&[slow, PLAIN], most).compare_edges(&edges);
+    let told = told.unwrap_err();
+    assert!(told.starts_with("TOO SLOW: 0.0"), "{told}");
+    assert!(told.contains("plain Rust on edge book "), "{told}");
+    let sides = [PLAIN, slow];
+    let mut patient = Comparison::limited(&sides, most);
+    assert_eq!(patient.compare_edges(&edges), Ok(()));
+    assert_eq!(patient.longest.on(), Some(&edges[0].0));
+}
+
+#[test]
+fn a_call_that_does_not_end_is_told_of_while_it_is_under_way() {
+    let (soon, late) = (Duration::from_millis(1), Duration::from_secs(600));
+    let notes = Notes::default();
+    let told = notes.during(Box::new(|| "the call of this test".into()), || {
+        std::thread::sleep(Duration::from_millis(20));
+        assert_eq!(overdue(late), None);
+        overdue(soon)
+    });
+    // Another test's call may be under way too.
+    assert!(told.is_some());
+    assert_ne!(overdue(soon), Some("the call of this test".into()));
+}
+
+#[test]
+fn edge_pairs_are_compared_though_the_second_program_gives_up() {
+    let pairs = edge_pairs(32, 300);
+    let given_up = pairs.iter().filter(|pair| !answered_pair(pair)).count();
+    assert!(given_up > 20 && given_up < 200, "{given_up}");
+    let mut comparison = Pairs::limited(SIDES, None);
+    let mut all = pairs.iter();
+    assert_eq!(
+        all.try_for_each(|pair| comparison.compare_edge(pair)),
+        Ok(())
+    );
+    assert_eq!(comparison.compared, 300);
+    // It is asked more here: whether the first covers, and then which is kept.
+    assert!(comparison.passed_over <= given_up);
+    let turned = Side {
+        covers: |first, second, width| (PLAIN.covers)(second, first, width),
+        ..PLAIN
+    };
+    let sides = [PROVED, turned];
+    let mut wrong = Pairs::limited(&sides, None);
+    let mut hard = pairs.iter().filter(|pair| !answered_pair(pair));
+    let told = hard.try_for_each(|pair| wrong.compare_edge(pair));
+    let told = told.unwrap_err();
+    assert!(told.contains("\nthe proved routines: covers"), "{told}");
 }
 
 #[test]

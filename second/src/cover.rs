@@ -1,5 +1,6 @@
 //! Covering, by trying every placement of atoms on atoms.
 
+use crate::budget;
 use crate::term::{Atom, Question, Term};
 
 /// A map of variables to terms, as the pairs that were put into it, no variable in two. A
@@ -97,7 +98,7 @@ pub fn for_each_map(a: &[Atom], b: &[Atom], start: &Map, visit: &mut dyn FnMut(&
 }
 
 /// Places the first of the atoms on each of `b` in turn, and the others after it; false
-/// once `visit` has answered false.
+/// once `visit` has answered false or the budget is used up.
 fn place(atoms: &[Atom], b: &[Atom], map: &mut Map, visit: &mut dyn FnMut(&Map) -> bool) -> bool {
     let Some((first, others)) = atoms.split_first() else {
         return visit(map);
@@ -106,7 +107,7 @@ fn place(atoms: &[Atom], b: &[Atom], map: &mut Map, visit: &mut dyn FnMut(&Map) 
         !sent(first, target, map) || place(others, b, map, visit)
     };
     b.iter()
-        .all(|target| map.tried(|map| goes_on(map, target, visit)))
+        .all(|target| budget::take(1) && map.tried(|map| goes_on(map, target, visit)))
 }
 
 /// Whether this atom could be placed on one of `b` if no other had to be.

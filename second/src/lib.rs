@@ -4,15 +4,17 @@
 //! Reading order: `term`, `cover`, `form`, `unify`, `explore` say what a run is;
 //! `width`, `book`, `union`, `run`, `print` put it into bytes, `copying` a book into its other
 //! form; `desk` is the search desk, `meeting` what it says of a map. `source` is the text form of books. `generate`, `damage`, `limits`,
-//! `raw`, `six`, `pairs`, `kinds` and `seen` serve the comparer, a package of its own; `chase` and `ledger`
-//! the second check of what a complete union promises.
+//! `raw`, `six`, `pairs`, `edges`, `kinds` and `seen` serve the comparer, a package of its own; `budget`
+//! ends what would take too long; `chase` and `ledger` are the second check of what a complete union promises.
 
 pub mod book;
+pub mod budget;
 pub mod chase;
 pub mod copying;
 pub mod cover;
 pub mod damage;
 pub mod desk;
+pub mod edges;
 pub mod explore;
 pub mod form;
 pub mod generate;

@@ -1,6 +1,7 @@
 //! One-step rewritings: every choice by counting, its classes made from scratch, its
 //! validity by the paper's words.
 
+use crate::budget;
 use crate::form::form;
 use crate::seen::Behaviour;
 use crate::term::{occurs, Atom, Question, Rule, Term};
@@ -65,7 +66,7 @@ fn put_digits(number: u64, h: usize, digits: &mut [usize]) {
 }
 
 /// Calls `visit` with each choice in which "relations must agree", in ascending order,
-/// until `visit` answers false. Nothing else is skipped.
+/// until `visit` answers false or the budget is used up. Nothing else is skipped.
 pub fn for_each_choice(
     question: &Question,
     rule: &Rule,
@@ -78,7 +79,7 @@ pub fn for_each_choice(
         rule,
         digits: vec![0; n],
     };
-    while number < choice_count(h, n) {
+    while number < choice_count(h, n) && budget::take(budget::CHOICE) {
         put_digits(number, h, &mut choice.digits);
         match first_disagreement(&question.atoms, rule, &choice.digits) {
             Some(at) => {

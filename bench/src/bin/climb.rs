@@ -1,4 +1,5 @@
-//! Climbs towards books that are slow for one side, and shows the slowest as a text.
+//! Climbs towards books that are slow for one side, and shows the slowest as a text, which can be
+//! put into `bench/books` as it is.
 
 use bench::climb::{climb, serve, Slowest, Timer, CHILD};
 use bench::sides::{Side, PLAIN, PROVED};
@@ -9,8 +10,9 @@ use std::time::Duration;
 
 /// How the command is used.
 const USAGE: &str = "climb [--side proved|plain] [--seconds N] [--limit SECONDS] [--seed S]
-  climbs for N seconds (60) towards books that are slow for one side (proved); a run is
-  stopped, and the climb ended, at the limit (10 seconds by the clock on the wall)";
+  climbs for N seconds (60) from edge books and others towards books that are slow for one
+  side (proved), and prints the slowest as a text for bench/books; a run is stopped, and the
+  climb ended, at the limit (10 seconds by the clock on the wall)";
 
 /// What is asked for.
 struct Asked {

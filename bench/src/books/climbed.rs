@@ -19,14 +19,15 @@ const FOUND: [(&str, Pace, &str); 2] = [
 
 /// The books.
 pub fn books() -> Vec<Task> {
+    let task = |found| task("worst known", found);
     FOUND.iter().map(task).collect()
 }
 
-/// One of them, ready to be timed.
-fn task((name, pace, text): &(&str, Pace, &str)) -> Task {
+/// A book of this kind that was found, ready to be timed.
+pub fn task(kind: &'static str, (name, pace, text): &(&str, Pace, &str)) -> Task {
     let read = source::read(text).unwrap_or_else(|what| panic!("{name}: {what}"));
     Task {
-        kind: "worst known",
+        kind,
         name: name.to_string(),
         rules: read.book.rules.len(),
         pace: *pace,

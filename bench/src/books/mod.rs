@@ -1,7 +1,9 @@
-//! The books: four ordinary kinds in three sizes, books in the new form, and the worst ones known.
+//! The books: four ordinary kinds in three sizes, books in the new form, the worst ones known, and
+//! edge books at their largest.
 
 mod choices;
 mod climbed;
+mod edges;
 mod late;
 mod members;
 mod ontology;
@@ -10,6 +12,7 @@ mod six;
 mod text;
 mod words;
 
+pub use edges::books as edges;
 pub use six::books as new_form;
 pub use text::Words;
 

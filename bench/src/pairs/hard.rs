@@ -1,8 +1,9 @@
 //! Hard shapes: a pair of graphs each, an atom of one relation for each arrow.
 
-use super::graphs::*;
 use crate::task::{Bytes, Pace, Task, Work};
-use second::term::{Atom, Question, Term};
+use second::edges::graphs::*;
+use second::edges::{Drawn, Filling};
+use second::term::Question;
 use second::union::record;
 use second::width::Width;
 
@@ -77,20 +78,23 @@ fn same() -> Vec<Task> {
 
 /// One pair, asked in this order.
 fn hard(name: &str, pace: Pace, first: Vec<Arrow>, second: Vec<Arrow>) -> Task {
+    let records = (graph(&first, 2, WIDTH), graph(&second, 2, WIDTH));
     Task {
         kind: "covering, shapes",
         name: format!("pair-{name}"),
         rules: 0,
         pace,
-        work: Work::Covers(WIDTH, vec![(graph(&first), graph(&second))]),
+        work: Work::Covers(WIDTH, vec![records]),
     }
 }
 
-/// The record with an atom for each arrow.
-fn graph(arrows: &[Arrow]) -> Bytes {
-    let atom = |&(from, to): &Arrow| {
-        let terms = vec![Term::Variable(from), Term::Variable(to)];
-        Atom::new(0, terms)
+/// The record with an atom of so many places for each arrow, in the places after the second
+/// variables of their own.
+pub fn graph(arrows: &[Arrow], places: usize, width: Width) -> Bytes {
+    let drawn = Drawn {
+        relation: 0,
+        places,
+        filling: Filling::Apart,
     };
-    record(&Question::boolean(arrows.iter().map(atom).collect()), WIDTH)
+    record(&Question::boolean(drawn.atoms(arrows)), width)
 }

@@ -1,22 +1,25 @@
-//! The comparer: `compare [--seconds N] [--count N] [--seed S] [--threads N] [--books DIR]
-//! [--program PATH] [--to-new PATH] [--to-old PATH] [--against CMD ARG..]`. Runs the second
-//! program and the others in this process on the books in DIR, on the books made on purpose and
+//! The comparer: `compare [--seconds N] [--count N] [--seed S] [--threads N] [--limit SECONDS]
+//! [--books DIR] [--program PATH] [--to-new PATH] [--to-old PATH] [--against CMD ARG..]`. Runs the
+//! second program and the others in this process on the books in DIR, on the books made on purpose and
 //! on generated ones, copies each into both forms, runs the other form too, and compares every
 //! byte. CMD is a batch program, given the same but for most of the generated
 //! ones; PATH a program that takes one book, to print its union or to copy it, given those in
-//! DIR and some made on purpose. Fails at the first difference, and if a behaviour of the paper was not met.
+//! DIR and some made on purpose. Fails at the first difference, if a behaviour of the paper was not
+//! met, and if a call of the proved routines takes more processor time than the limit.
 
 use compare::against::Against;
 use compare::asked::Asked;
 use compare::blocks::{each_block, rate, BLOCK};
-use compare::comparison::Comparison;
+use compare::comparison::{answered, Comparison};
+use compare::generated::{edge_books, ordinary_books, shares};
 use compare::output::takes_small_output;
+use compare::overdue::look_after;
 use compare::programs::{compare_batch, compare_copier, compare_program};
 use compare::side::{told, SIDES};
 use compare::Named;
+use second::limits;
 use second::seen::Behaviour;
 use second::width::Width;
-use second::{generate, limits, random::Random};
 use std::path::{Path, PathBuf};
 use std::process::ExitCode;
 use std::time::Instant;
@@ -35,14 +38,6 @@ fn kept_books(directory: &Path) -> Result<Vec<Named>, String> {
         Ok((path.file_name().unwrap().to_string_lossy().into(), bytes))
     };
     paths.into_iter().map(read).collect()
-}
-
-/// The first books of a seed, by number.
-fn generated(seed: u64, many: usize) -> Vec<Named> {
-    let mut random = Random::new(seed);
-    let name = |i: usize| format!("book {i} of seed {seed}");
-    let books = (0..many).map(|i| (name(i), generate::next(&mut random)));
-    books.collect()
 }
 
 /// Whether a book made on purpose is worth a start of its own.
@@ -80,15 +75,37 @@ fn compare_batches(
 ) -> Result<usize, String> {
     compare_batch(against, kept)?;
     compare_batch(against, made)?;
+    let mut count = kept.len() + made.len();
     for block in 0..BATCHES {
-        compare_batch(against, &generated(seed.wrapping_add(block), BLOCK))?;
+        let books = batch(seed.wrapping_add(block));
+        compare_batch(against, &books)?;
+        count += books.len();
     }
-    Ok(kept.len() + made.len() + BATCHES as usize * BLOCK)
+    Ok(count)
+}
+
+/// The generated books of a block that a batch program is given: ordinary ones, and the edge books
+/// that the second program answers.
+fn batch(seed: u64) -> Vec<Named> {
+    let (ordinary, edges) = shares(BLOCK);
+    let mut books = ordinary_books(seed, ordinary);
+    let edges = edge_books(seed, edges).into_iter();
+    books.extend(edges.filter(|(_, book)| answered(book)));
+    books
+}
+
+/// Compares the generated books of a block.
+fn compare_block(part: &mut Comparison, seed: u64, many: usize) -> Result<(), String> {
+    let (ordinary, edges) = shares(many);
+    part.compare(&ordinary_books(seed, ordinary))?;
+    part.compare_edges(&edge_books(seed, edges))
 }
 
 /// Runs the whole comparison; how quickly it went.
 fn compare_all(asked: Asked) -> Result<(Comparison<'static>, String), String> {
-    let mut comparison = Comparison::new(SIDES);
+    asked.limit.into_iter().for_each(look_after);
+    let nothing = || Comparison::limited(SIDES, asked.limit);
+    let mut comparison = nothing();
     let (kept, made) = (kept_books(&asked.books)?, limits::books());
     comparison.compare(&kept)?;
     comparison.compare(&made)?;
@@ -100,11 +117,7 @@ fn compare_all(asked: Asked) -> Result<(Comparison<'static>, String), String> {
     println!("kept and made on purpose: {} books", comparison.compared);
     compare_programs(&asked, &kept, &made)?;
     let start = Instant::now();
-    let parts = each_block(
-        asked.blocks(),
-        || Comparison::new(SIDES),
-        |part, seed, many| part.compare(&generated(seed, many)),
-    )?;
+    let parts = each_block(asked.blocks(), nothing, compare_block)?;
     let made = parts.iter().map(|part| part.compared).sum();
     let rate = rate("books", made, parts.len(), start);
     parts.iter().for_each(|part| comparison.add(part));
@@ -117,6 +130,14 @@ fn report(comparison: &Comparison, rate: &str) -> bool {
     println!("{rate}\n{}\n{}", comparison.times(), told(SIDES));
     let (took, name) = &comparison.slowest;
     println!("slowest: {name}, {:.2} s", took.as_secs_f64());
+    if let Some(name) = comparison.longest.on() {
+        let (who, seconds) = (SIDES[0].name, comparison.longest.seconds());
+        println!("slowest for {who}: {name}, {seconds:.3} s");
+    }
+    println!(
+        "edge books {}, of them passed over by the second program {}",
+        comparison.edges, comparison.passed_over
+    );
     let complete = comparison.seen.count(Behaviour::Complete);
     let compared = comparison.compared;
     let both = comparison.in_both_forms;

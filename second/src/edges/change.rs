@@ -1,9 +1,9 @@
 //! Small changes of a book.
 
-use second::book::{self, Book};
-use second::random::Random;
-use second::seen::Seen;
-use second::term::{Atom, Rule, Term};
+use crate::book::{self, Book};
+use crate::random::Random;
+use crate::seen::Seen;
+use crate::term::{Atom, Rule, Term};
 
 /// The book with one small change, sound as it was.
 pub fn changed(now: &Book, random: &mut Random) -> Book {

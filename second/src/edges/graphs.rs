@@ -29,6 +29,11 @@ pub fn one_way(many: usize) -> Vec<Arrow> {
     clique(6).into_iter().take(many).collect()
 }
 
+/// So many arrows into one point.
+pub fn star(many: usize) -> Vec<Arrow> {
+    (1..=many).map(|i| (i, 0)).collect()
+}
+
 /// Six points in three parts, arrows from any to any of a later part: no clique of four.
 pub fn three_parts(many: usize) -> Vec<Arrow> {
     let apart = |&(i, j): &Arrow| i / 2 != j / 2;
@@ -49,11 +54,28 @@ pub fn leaves_then_ring(many: usize) -> Vec<Arrow> {
     [leaves, vec![(0, 1), (1, 0)]].concat()
 }
 
+/// How far the points of a graph are numbered.
+pub fn points(graph: &[Arrow]) -> usize {
+    let last = graph.iter().map(|&(a, b)| a.max(b));
+    last.max().map_or(0, |last| last + 1)
+}
+
 /// The first graph, then the second on points of its own.
 pub fn before(first: Vec<Arrow>, second: Vec<Arrow>) -> Vec<Arrow> {
-    let points = first.iter().map(|&(a, b)| a.max(b) + 1).max().unwrap_or(0);
-    let moved = second.into_iter().map(|(a, b)| (a + points, b + points));
+    let by = points(&first);
+    let moved = second.into_iter().map(|(a, b)| (a + by, b + by));
     first.into_iter().chain(moved).collect()
+}
+
+/// The two graphs on points of their own, an arrow of the one and an arrow of the other in turn.
+pub fn between(first: Vec<Arrow>, second: Vec<Arrow>) -> Vec<Arrow> {
+    let (many, mut both) = (first.len(), before(first, second));
+    let mut later = both.split_off(many).into_iter();
+    let turns = both
+        .into_iter()
+        .flat_map(|arrow| [Some(arrow), later.next()]);
+    let turns: Vec<Arrow> = turns.flatten().collect();
+    turns.into_iter().chain(later).collect()
 }
 
 /// Every other arrow first, so that neighbours come late.
