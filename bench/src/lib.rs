@@ -5,7 +5,7 @@
 //! report, `machine` and `page` write docs/SPEED.md, `options` reads the command line. `climb` is the
 //! search towards slow books, from edge books (`second::edges`) and others.
 //!
-//! The kinds `edges` and `edges, pairs` are edge books and pairs at their largest. The five whose
+//! The kinds `edges` and `edges, pairs` are edge books and pairs at their largest. The seven whose
 //! names have `found` in them are random ones that the comparer met and was kept waiting by; what
 //! `climb` prints can be put beside them, into `bench/books`, and named in `books/edges.rs`.
 

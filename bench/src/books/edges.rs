@@ -19,7 +19,17 @@ pub fn books() -> Vec<Task> {
 const KIND: &str = "edges";
 
 /// The slowest that the comparer met, as they were made, each with its name.
-const FOUND: [(&str, Pace, &str); 5] = [
+const FOUND: [(&str, Pace, &str); 7] = [
+    (
+        "edges-found-knot-and-ring",
+        Pace::Slow,
+        include_str!("../../books/edge-knot-and-ring.txt"),
+    ),
+    (
+        "edges-found-equal-heads",
+        Pace::Heavy,
+        include_str!("../../books/edge-equal-heads.txt"),
+    ),
     (
         "edges-found-unrelated-then-clique",
         Pace::Slow,

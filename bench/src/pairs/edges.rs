@@ -48,10 +48,10 @@ pub fn tasks() -> Vec<Task> {
             three_parts(11),
         ),
         edge(
-            "new-both-ways-on-ring",
+            "new-odd-ring-on-both-ways",
             Width::Six,
-            both_ways(11),
             odd_ring(),
+            both_ways(11),
         ),
         edge(
             "new-same",
@@ -62,7 +62,7 @@ pub fn tasks() -> Vec<Task> {
     ]
 }
 
-/// A ring of eleven, neighbours late: what goes there and back has no place on it.
+/// A ring of eleven, neighbours late: it has no place where every ring is even.
 fn odd_ring() -> Vec<Arrow> {
     scattered(ring(11))
 }
