@@ -23,6 +23,8 @@ pub struct Comparison<'s> {
     pub edges: usize,
     /// On how many the second program gave up: there the others are compared with each other.
     pub passed_over: usize,
+    /// How many edge books were compared by none.
+    pub left_out: usize,
     /// The steps that the second program may take for the book at hand; 0 once it gave up.
     steps: u64,
     /// The first side's longest call.
@@ -50,6 +52,7 @@ impl<'s> Comparison<'s> {
             compared: 0,
             edges: 0,
             passed_over: 0,
+            left_out: 0,
             steps: ALL,
             longest: Longest::within(most),
             notes: Notes::default(),
@@ -68,6 +71,12 @@ impl<'s> Comparison<'s> {
     pub fn compare_edges(&mut self, books: &[Named]) -> Result<(), String> {
         self.edges += books.len();
         self.compare_within(BOOK_STEPS, books)
+    }
+
+    /// Counts edge books that are compared by none.
+    pub fn leave_out(&mut self, many: usize) {
+        self.edges += many;
+        self.left_out += many;
     }
 
     /// The same where the second program takes no more than so many steps for a book.
@@ -225,6 +234,7 @@ impl<'s> Comparison<'s> {
         self.compared += other.compared;
         self.edges += other.edges;
         self.passed_over += other.passed_over;
+        self.left_out += other.left_out;
         self.longest.add(&other.longest);
         self.in_both_forms += other.in_both_forms;
         for (mine, theirs) in self.spent.iter_mut().zip(&other.spent) {

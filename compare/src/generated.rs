@@ -1,16 +1,20 @@
-//! What is made of a seed: ordinary books or pairs and, one in eight, edge ones.
+//! What is made of a seed: ordinary books or pairs, and among them some edge ones.
 
 use crate::Named;
 use second::pairs::{self, Pair};
 use second::random::Random;
 use second::{book, edges, generate};
 
-/// One in so many is an edge book or an edge pair.
-const EDGES: usize = 8;
+/// One book in so many is an edge book: it takes the second program as long as thousands of ordinary
+/// ones.
+pub const BOOKS: usize = 100;
 
-/// Of so many books or pairs, how many are ordinary and how many edge ones.
-pub fn shares(many: usize) -> (usize, usize) {
-    (many - many / EDGES, many / EDGES)
+/// One pair in so many is an edge pair.
+pub const PAIRS: usize = 8;
+
+/// Of so many, how many are ordinary and how many edge ones, if one in `each` is.
+pub fn shares(many: usize, each: usize) -> (usize, usize) {
+    (many - many / each, many / each)
 }
 
 /// The first of what a generator makes of this seed.

@@ -32,6 +32,11 @@ impl<T: Clone> Longest<T> {
         }
     }
 
+    /// Whether a call may take only so long.
+    pub fn is_limited(&self) -> bool {
+        self.most.is_some()
+    }
+
     /// Counts a call that took so long; an error, in words, if that is over the limit.
     pub fn count(&mut self, took: Duration, on: impl FnOnce() -> T) -> Result<(), String> {
         if self.on.is_none() || took > self.took {

@@ -11,7 +11,7 @@ use compare::against::Against;
 use compare::asked::Asked;
 use compare::blocks::{each_block, rate, BLOCK};
 use compare::desk::{answered, compare_batch, shown, Pairs};
-use compare::generated::{edge_pairs, ordinary_pairs, shares};
+use compare::generated::{edge_pairs, ordinary_pairs, shares, PAIRS};
 use compare::overdue::look_after;
 use compare::side::{told, SIDES};
 use second::kinds::Kinds;
@@ -30,7 +30,7 @@ struct Compared {
 /// Compares the pairs of a block, and counts the kinds of the ordinary ones. To tell the kind of
 /// an edge pair takes as long as to try everything.
 fn compare_block(compared: &mut Compared, seed: u64, many: usize) -> Result<(), String> {
-    let (ordinary, edges) = shares(many);
+    let (ordinary, edges) = shares(many, PAIRS);
     for pair in ordinary_pairs(seed, ordinary) {
         compared.kinds.count(&pair);
         compared.pairs.compare(&pair)?;
@@ -42,7 +42,7 @@ fn compare_block(compared: &mut Compared, seed: u64, many: usize) -> Result<(), 
 /// Compares a batch program on ordinary pairs and on the edge pairs that the second program
 /// answers; on how many.
 fn compare_batches(against: &Against, seed: u64) -> Result<usize, String> {
-    let (ordinary, edges) = shares(BLOCK);
+    let (ordinary, edges) = shares(BLOCK, PAIRS);
     let blocks = (0..BATCHES).map(|block| seed.wrapping_add(block));
     let pairs = blocks.flat_map(|seed| {
         let edges = edge_pairs(seed, edges).into_iter().filter(answered);
