@@ -1,158 +1,46 @@
 -- The first digits of a choice, one digit more at a time: what the loop of `prefix_rewriting` keeps, and what a digit
 -- adds to the atoms left and to the classes. Assumes nothing.
 use mathlib.Core.Path.{_≡_, refl, sym, _∙_, ap, ap₂, subst}
-use mathlib.Core.Bool.{Bool, true, false, cond}
+use mathlib.Core.Bool.{true, false, cond}
 use mathlib.Core.Logic.{_⊎_, inl, inr}
-use mathlib.Core.List.{List, [], _∷_, _++_, append-nil, List·Memᴰ·append-cases, List·Memᴰ·eq-of-singleton}
-use mathlib.Core.List.{List·Memᴰ·head, List·Memᴰ·tail, List·Memᴰ·not-nil}
-use mathlib.Core.Option.{Option, none, some, Option·some-injective}
+use mathlib.Core.List.{List, [], _∷_, _++_, List·Memᴰ·append-cases, List·Memᴰ·eq-of-singleton}
+use mathlib.Core.List.{List·Memᴰ·head, List·Memᴰ·tail}
+use mathlib.Core.Option.{Option, none, some}
 use Prim.Native.Nat.{ℕ, zero, suc, _+_, _*_, _-_, _/_, _%_, _≤_, _<_}
 use native.Mathlib.Nat.{mod-eq-sub-div-mul, div-eq-of-lt-le, add-mul}
 use native.Mathlib.Omega.{arith}
-use lib.Dec.{T, leb, leb→le, le→leb}
-use lib.ListN.{length, getD, take, drop, length-append, length-map}
+use lib.Dec.{leb}
+use lib.ListN.{length, getD, take, drop, length-append}
 use lib.Seq.{take-suc, drop-cons, take-add, length-take-le}
 use Rattle.covering.specs.Lists.{_∈_, bind}
-use Rattle.covering.specs.Term.{Term, var, con, Atom, Question, Sub, on-term, on-atom, on-question, terms}
-use Rattle.covering.specs.Record.{Layout, size, stored, termOf, atomAt, atomsAt, questionOf, isAtom, AtomFits, TermFits, Fits}
-use Rattle.covering.specs.Buffer.{heldIn, AtomIn, AtomsIn, RoomLeft, recordRoom}
+use Rattle.covering.specs.Term.{Term, var, con, Atom, Question, Sub, terms}
+use Rattle.covering.specs.Record.{size, stored, atomAt, atomsAt, questionOf, AtomFits, TermFits}
+use Rattle.covering.specs.Buffer.{heldIn, recordRoom}
 use Rattle.covering.specs.Rule.{Rule}
 use Rattle.covering.proofs.Lengths.{count-atoms, question-count}
-use Rattle.covering.proofs.Lists.{map-same}
-use Rattle.covering.proofs.Places.{atoms-step, are-atoms, question-at}
-use Rattle.covering.proofs.Terms.{on-atom-same, terms-in, terms-append}
-use Rattle.covering.proofs.Tests.{none≢some, not-of, cond-yes, cond-no}
+use Rattle.covering.proofs.Places.{question-at}
 use Rattle.book.specs.declared.Parts.{Parts}
 use Rattle.unification.specs.Classes.{Pair, unify}
-use Rattle.unification.specs.Choice.{Choice, count, number, choices, left, toHead, pairing, atomPairs}
-use Rattle.unification.specs.Step.{up, move, rewriting}
+use Rattle.unification.specs.Choice.{Choice, count, number, choices, left, pairing}
+use Rattle.unification.specs.Step.{move, rewriting}
 use Rattle.unification.proofs.Choices.{left-in}
 use Rattle.unification.proofs.Extending.{left-extends, unify-extends, unify-stops}
 use Rattle.unification.proofs.Moved.{moved-below}
 use Rattle.unification.proofs.Numbers.{choice-length, number-below}
 use Rattle.unification.proofs.Prefix.{choice-split, choice-drop, numbered}
-use Rattle.unify.specs.InBytes.{inBook, ruleIn, classesOf, merged}
-use Rattle.unify.specs.Table.{Table, own, tabled, unifyTable}
+use Rattle.unify.specs.InBytes.{inBook, ruleIn, classesOf}
+use Rattle.unify.specs.Table.{own, unifyTable}
 use Rattle.unify.proofs.TableBytes.{merged-yes, merged-no}
-use Rattle.lister.specs.declared.Settled.{Settled}
-use Rattle.lister.specs.FirstDigits.{unmet, surelyLeft, settled, settledOf, PrefixIs, DigitFor, DigitPut, UnmetLeft}
-use Rattle.lister.specs.Listing.{ruleOf, RuleIn, QuestionIn, LeftIn, ClassesFit, Written}
-use Rattle.lister.proofs.Answers.{heads-are, pairs-are}
-use Rattle.lister.proofs.Asked.{Tries, head-sound, child-sent, room-left, nth-sound, fits-below, apart-fit, count-few}
+use Rattle.lister.specs.FirstDigits.{surelyLeft, settled, DigitFor, DigitPut}
+use Rattle.lister.specs.Listing.{ruleOf, RuleIn, QuestionIn, LeftIn, ClassesFit}
+use Rattle.lister.proofs.Asked.{fits-below, apart-fit}
 use Rattle.lister.proofs.LeftAtoms.{left-held, left-none, left-each}
-use Rattle.lister.proofs.RewritingBytes.{first-fits, all-fit}
-use Rattle.lister.proofs.Table.{In, Agree, BothTables, Small, unify-same, own-agrees, head-small, below-in}
-
--- the atom after the first j
-pub nth-atom : (L : Layout) (B : List ℕ) (i n j : ℕ) (a : Atom) → j < n
-    → getD (atomsAt L B i n) j a ≡ atomAt L B (i + j * size L)
-nth-atom L B i zero j a lt = absurd (omega arith)
-nth-atom L B i (suc n) zero a lt =
-    ap (λ A. getD A 0 a) (atoms-step L B i n) ∙ ap (atomAt L B) (here i (size L))
-  where
-    here : (d s : ℕ) → d ≡ d + 0 * s
-    here d s = omega arith
-nth-atom L B i (suc n) (suc j) a lt =
-    ap (λ A. getD A (suc j) a) (atoms-step L B i n)
-    ∙ nth-atom L B (i + size L) n j a (omega arith)
-    ∙ ap (atomAt L B) (next i j (size L))
-  where
-    next : (d e s : ℕ) → d + s + e * s ≡ d + suc e * s
-    next d e s = omega arith
-
-count-classes : (table : List ℕ) → length table ≡ length (classesOf table)
-unfolding classesOf
-count-classes table = sym (length-map table termOf)
-
--- one atom is a part with one atom
-pub one-atom : {Q : List ℕ} {i : ℕ} → AtomIn inBook Q i → AtomsIn inBook Q i 1
-one-atom {Q} {i} a =
-    record {
-      fits = omega (arith, a .fits);
-      sound = are-atoms inBook Q i 1 (λ j l. subst (λ x. T (isAtom inBook Q x)) (at j l) (a .sound));
-    }
-  where
-    at : (j : ℕ) → j < 1 → i ≡ i + size inBook * j
-    at j l = omega arith
-
--- the j-th atom of a question
-pub nth-in-book : {Q : List ℕ} → QuestionIn Q → {j : ℕ} → j < getD Q 0 0 → AtomIn inBook Q (1 + j * 7)
-nth-in-book {Q} q {j} l =
-    record { fits = omega (arith, q .atoms .fits); sound = nth-sound Q (getD Q 0 0) j 1 l (q .atoms .sound) }
-
--- one digit more, as `put_digit` is asked for it
-module _ {Q B : List ℕ} {p : Parts} {i d : ℕ} {A table : List ℕ} (f : DigitFor Q B p i d A table) where
-  pub digit-tries : Tries Q B p i 1 0 false A table d
-  digit-tries = (
-    record {
-      atoms = one-atom (f .atom);
-      rule = f .rule;
-      left = f .left-in;
-      few = omega (arith, f .few);
-      fewer = λ t. let z : _≡_ {A = ℕ} 0 1 = cc in absurd (omega arith);
-      small = omega (arith, count-few (p .heads) 1 (f .rule .few-head) (omega arith));
-      size = f .size;
-      classes = f .classes;
-    },
-    omega arith,
-    f .small,
-  )
-
-  -- the atom is left
-  pub put-left : {R : List ℕ} → d ≡ 0 → R ≡ heldIn stored recordRoom (questionOf stored A ++ atomAt stored Q i ∷ [])
-      → DigitPut Q B p i d A table true R table
-  put-left {R} e r =
-      subst (λ x. DigitPut Q B p i x A table true R table) (sym e)
-      (record { leaves = r; meets = merged-yes true table refl; classes = λ t. f .classes })
-
-  -- the atom is sent
-  module _ (h : 0 < d) (ok : Bool) (table′ : List ℕ)
-      (e : merged ok table′
-      ≡ unifyTable
-      (atomPairs (atomAt stored Q i) (on-atom (up 48) (atomAt stored B (p .head + (d - 1) * 7))))
-      (classesOf table))
-      (kept : length table′ ≡ length table)
-    where
-      pub put-sent : DigitPut Q B p i d A table ok A table′
-      put-sent =
-          let r = pairs-are B p (atomAt stored Q i) d h (f .small) in
-          record {
-            leaves =
-                f .left-in .holds
-                ∙ ap (heldIn stored recordRoom)
-                (sym (append-nil (questionOf stored A))
-                ∙ ap (λ x. questionOf stored A ++ left (x ∷ []) (atomAt stored Q i ∷ [])) (sym (r .1)));
-            meets =
-                e
-                ∙ ap (λ ps. unifyTable ps (classesOf table)) (sym (append-nil _ ∙ r .2))
-                ∙ ap (λ x. unifyTable (pairing (x ∷ []) (atomAt stored Q i ∷ []) ((move 48 (ruleOf B p)) .head)) (classesOf table))
-                (sym (r .1));
-            classes = λ t. child-sent digit-tries h ok table table′ e kept refl t .classes;
-          }
-
--- the terms of what one digit puts together
-digit-pairs : (k d : ℕ) (a : Atom) (H : Question) → ((t : Term) → t ∈ a .args → In k t)
-    → ((t : Term) → t ∈ terms H → In k t) → Small k (pairing (d ∷ []) (a ∷ []) H)
-digit-pairs k zero a H f g = λ x m. absurd (List·Memᴰ·not-nil m)
-digit-pairs k (suc e) a H f g = subst (Small k) (sym (append-nil (toHead H e a))) (head-small k H e a f g)
-
-one-left : (d : ℕ) (a : Atom) → length (left (d ∷ []) (a ∷ [])) ≤ 1
-one-left zero a = omega arith
-one-left (suc e) a = omega arith
-
--- the classes of a table, where it agrees with them on all that stands in L and in the rule's body
-rewriting-table : (k : ℕ) (m : Table) (σ : Sub) (L : Question) (r : Rule) → Agree k m σ
-    → ((t : Term) → t ∈ terms (L ++ r .body) → In k t) → rewriting (tabled m) L r ≡ rewriting σ L r
-rewriting-table k m σ L r g small =
-    map-same (on-atom (tabled m)) (on-atom σ) (L ++ r .body)
-    (λ a n. on-atom-same (tabled m) σ a (λ t i. at t (small t (terms-in (L ++ r .body) n i))))
-  where
-    at : (t : Term) → In k t → on-term (tabled m) t ≡ on-term σ t
-    at (var n) l = g .entry n l
-    at (con c) l = refl
+use Rattle.lister.proofs.RewritingBytes.{all-fit}
+use Rattle.lister.proofs.Table.{In, Agree, BothTables, Small, unify-same, own-agrees, below-in}
+use Rattle.lister.proofs.OneDigit.{nth-atom, count-classes, nth-in-book, digit-pairs, one-left}
 
 -- what the classes of the first p digits settle
-abbrev settledBy : Rule → Question → ℕ → Choice → Sub → Option Question
+abbrev pub settledBy : Rule → Question → ℕ → Choice → Sub → Option Question
 settledBy r Q p ds σ =
     cond (leb (length (surelyLeft r Q p ds)) 8) (some (rewriting σ (surelyLeft r Q p ds) (move 48 r))) none
 
@@ -416,95 +304,3 @@ module _ {Q B : List ℕ} {p : Parts} {c j rest : ℕ} {A table : List ℕ} (q :
           as-many-more =
               length-take-le (j + 1) (b .choice) (omega (arith, long))
               ∙ sym (length-take-le (j + 1) Q₀ (omega (arith, long-question)))
-
--- what all the digits settle
-module _ (Q B : List ℕ) (p : Parts) (c : ℕ) where
-  whole-choice : (ds : Choice) → ds ∈ choices (p .heads) (getD Q 0 0)
-      → ds ∈ choices (length (ruleOf B p .head)) (length (questionOf stored Q))
-  whole-choice ds m = rw (heads-are B p, question-count stored Q) m
-
-  whole-place : (ds : Choice) → number (p .heads) ds ≡ c → number (length (ruleOf B p .head)) ds ≡ c
-  whole-place ds e = ap (λ h. number h ds) (heads-are B p) ∙ e
-
-  pub prefix-none : (ds : Choice) → ds ∈ choices (p .heads) (getD Q 0 0) → number (p .heads) ds ≡ c → (n : ℕ)
-      → settled 48 (ruleOf B p) (questionOf stored Q) n ds ≡ none
-      → PrefixIs (ruleOf B p) (questionOf stored Q) c n (settledOf none)
-  prefix-none ds m e n x =
-      record {
-        choice = ds;
-        among = whole-choice ds m;
-        place = whole-place ds e;
-        is = ap settledOf (sym x);
-        fits = λ X y. absurd (none≢some (sym x ∙ y));
-      }
-
-  -- the atoms left and those that no head atom can meet
-  module _ (r : RuleIn B p) {n rest : ℕ} {A table A′ : List ℕ} (b : Begun Q B p c n rest A table)
-      (u : UnmetLeft (ruleOf B p .head) (questionOf stored Q) n A A′)
-    where
-      abbrev L : Question
-      L = surelyLeft (ruleOf B p) (questionOf stored Q) n (b .choice)
-
-      left-are : questionOf stored A′ ≡ L
-      left-are = u .is ∙ ap (λ (X : Question). X ++ unmet (ruleOf B p .head) (drop n (questionOf stored Q))) (b .left-is)
-
-      counted : getD A′ 0 0 ≡ length L
-      counted = sym (question-count stored A′) ∙ ap length left-are
-
-      settled-by : (o : Option Question) → settledBy (ruleOf B p) (questionOf stored Q) n (b .choice) (b .classes) ≡ o
-          → settled 48 (ruleOf B p) (questionOf stored Q) n (b .choice) ≡ o
-      settled-by o e =
-          ap (λ (x : Option Sub). bind x (settledBy (ruleOf B p) (questionOf stored Q) n (b .choice))) (b .found) ∙ e
-
-      -- they are more than eight
-      pub prefix-many : 8 < getD A′ 0 0 → PrefixIs (ruleOf B p) (questionOf stored Q) c n (settledOf none)
-      prefix-many h =
-          prefix-none (b .choice) (b .among) (b .place) n
-          (settled-by none
-          (cond-no (leb (length L) 8) _ none
-          (not-of (leb (length L) 8) (λ t. let few = leb→le (length L) 8 t in absurd (omega (arith, counted))))))
-
-      module _ (few : getD A′ 0 0 ≤ 8) (R : List ℕ)
-          (w : Written (rewriting (tabled (classesOf table)) (questionOf stored A′) (move 48 (ruleOf B p))) R)
-        where
-          abbrev S : Question
-          S = rewriting (b .classes) L (move 48 (ruleOf B p))
-
-          small-terms : (t : Term) → t ∈ terms (questionOf stored A′ ++ (move 48 (ruleOf B p)) .body) → In 96 t
-          unfolding ruleIn
-          small-terms t m = at (subst (λ ts. t ∈ ts) (terms-append (questionOf stored A′) _) m)
-            where
-              at : t ∈ terms (questionOf stored A′) ++ terms ((move 48 (ruleOf B p)) .body) → In 96 t
-              at i = each (List·Memᴰ·append-cases (terms (questionOf stored A′)) i)
-                where
-                  each : (t ∈ terms (questionOf stored A′)) ⊎ (t ∈ terms ((move 48 (ruleOf B p)) .body)) → In 96 t
-                  each (inl x) =
-                      below-in 96 (questionOf stored A′)
-                      (λ v y. let k = fits-below _ (left-each A′ (u .left-in)) v y in omega arith) t x
-                  each (inr x) =
-                      below-in 96 ((move 48 (ruleOf B p)) .body)
-                      (moved-below 48 48 (ruleOf B p .body) (fits-below _ (all-fit B (p .body) (p .bodies) (r .body)))) t x
-
-          same : rewriting (tabled (classesOf table)) (questionOf stored A′) (move 48 (ruleOf B p)) ≡ S
-          same =
-              rewriting-table 96 (classesOf table) (b .classes) (questionOf stored A′) (move 48 (ruleOf B p)) (b .agree) small-terms
-              ∙ ap (λ X. rewriting (b .classes) X (move 48 (ruleOf B p))) left-are
-
-          settled-is : settled 48 (ruleOf B p) (questionOf stored Q) n (b .choice) ≡ some S
-          settled-is =
-              settled-by (some S)
-              (cond-yes (leb (length L) 8) (some S) none (le→leb (length L) 8 (omega (arith, counted))))
-
-          pub prefix-some : PrefixIs (ruleOf B p) (questionOf stored Q) c n (record { met = true; rewriting = R })
-          prefix-some =
-              record {
-                choice = b .choice;
-                among = whole-choice (b .choice) (b .among);
-                place = whole-place (b .choice) (b .place);
-                is =
-                    ap (λ (x : List ℕ). record { met = true; rewriting = x })
-                    (w .bytes ∙ ap (heldIn stored recordRoom) same)
-                    ∙ ap settledOf (sym settled-is);
-                fits = λ X y.
-                    subst (Fits stored) (same ∙ Option·some-injective S X (sym settled-is ∙ y)) (w .fits);
-              }

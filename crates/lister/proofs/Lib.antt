@@ -18,7 +18,9 @@ pub mod Pruned
 pub mod Stuck
 pub mod Answers
 pub mod Digits
+pub mod OneDigit
 pub mod FirstDigits
+pub mod WhatIsSettled
 pub mod Unmet
 -- a sound book gives what the lister asks for; any two results of a contract are equal
 pub mod FromBook

@@ -23,7 +23,7 @@ use Rattle.unify.specs.InBytes.{inBook}
 use Rattle.lister.specs.FirstDigits.{unmet}
 use Rattle.lister.specs.Listing.{QuestionIn, LeftIn}
 use Rattle.lister.proofs.RewritingBytes.{first-fits, first-atom-in}
-use Rattle.lister.proofs.FirstDigits.{nth-atom, one-atom, nth-in-book}
+use Rattle.lister.proofs.OneDigit.{nth-atom, one-atom, nth-in-book}
 use Rattle.lister.proofs.LeftAtoms.{left-put}
 
 -- whether an atom of H has the relation

@@ -14,7 +14,8 @@ use Rattle.unification.specs.Choice.{count}
 use Rattle.unification.proofs.Prefix.{count-some}
 use Rattle.lister.specs.FirstDigits.{DigitPut, PrefixIs}
 use Rattle.lister.specs.Listing.{ruleOf}
-use Rattle.lister.proofs.FirstDigits.{Begun, begun-first, begun-next, begun-stops, digit-for, prefix-none, prefix-many, prefix-some}
+use Rattle.lister.proofs.FirstDigits.{Begun, begun-first, begun-next, begun-stops, digit-for}
+use Rattle.lister.proofs.WhatIsSettled.{prefix-none, prefix-many, prefix-some}
 use Rattle.lister.proofs.prefix.prefix_rewriting.Statement.{statement}
 use Rattle.lister.proofs.prefix.prefix_rewriting.Tie as tie
 

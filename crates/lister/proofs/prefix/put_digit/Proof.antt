@@ -4,7 +4,7 @@ use native.Mathlib.Omega.{arith}
 use mathlib.Core.Path.{_≡_, sym}
 use Rattle.forming.proofs.Growing.{room-length}
 use Rattle.lister.proofs.Asked.{head-sound, room-left}
-use Rattle.lister.proofs.FirstDigits.{digit-tries, put-left, put-sent}
+use Rattle.lister.proofs.OneDigit.{digit-tries, put-left, put-sent}
 use Rattle.lister.proofs.prefix.put_digit.Statement.{statement}
 use Rattle.lister.proofs.prefix.put_digit.Tie as tie
 
