@@ -1,15 +1,21 @@
 -- Laws of the sets of the rules' head relations (`specs/Related`): that what is made of a rule's head is its set, and that
--- a rule whose set has nothing in common with the member's has no rewriting. Assumes nothing.
+-- a rule whose set has nothing in common with the member's has no rewriting; and of the flags that are stored after the
+-- sets. Assumes nothing.
 use mathlib.Core.Path.{_≡_, refl, sym, ap, _∙_, subst}
-use mathlib.Core.Bool.{true, false, true≢false}
+use mathlib.Core.Bool.{Bool, true, false, cond, true≢false}
+use mathlib.Core.Logic.{_⊎_, inl, inr}
 use mathlib.Core.List.{List}
 use mathlib.Core.Option.{Option, none, some}
-use Prim.Native.Nat.{ℕ, _≤_, _<_}
+use Prim.Native.Nat.{ℕ, _+_, _≤_, _<_}
 use native.Mathlib.Omega.{arith}
 use lib.Bits.{bitAnd, and-comm}
+use lib.Dec.{eqb}
+use lib.ListN.{length, getD, set}
+use lib.Seq.{getD-set-same, getD-set-other}
 use Rattle.covering.specs.Term.{Question}
 use Rattle.covering.specs.Rule.{Rule}
 use Rattle.covering.specs.Record.{stored, atomsAt, questionOf}
+use Rattle.covering.proofs.Tests.{le-or-lt}
 use Rattle.records.specs.Relations.{relationsOf}
 use Rattle.records.proofs.Among.{none-in-both}
 use Rattle.book.specs.declared.Parts.{Parts}
@@ -21,6 +27,7 @@ use Rattle.lister.specs.declared.Found.{Found}
 use Rattle.lister.specs.Counts.{mostChoices}
 use Rattle.lister.specs.Listing.{ruleOf, RuleIn, QuestionIn, foundOf, FoundIs}
 use Rattle.lister.proofs.FromBook.{rule-asked, found-within}
+use Rattle.unify.specs.Unknowns.{hasUnknowns}
 use Rattle.unification.specs.Step.{next}
 use Rattle.unification.proofs.Unrelated.{none-next}
 use Rattle.exploration.specs.Run.{apart}
@@ -32,6 +39,10 @@ module _ (B : List ℕ) (f : formOf B ≡ new) (s : ℕ) where
   head-set p e =
       ap (λ (q : Parts). relationsOf (atomsAt stored B (q .head) (q .heads))) e
       ∙ ap (λ (r : Rule). relationsOf (r .head)) (sym (rule-stored B f s))
+
+  -- and so is whether it has existential variables
+  pub unknowns-of : (p : Parts) → p ≡ partsAt B s → hasUnknowns (ruleOf B p) ≡ hasUnknowns (ruleAt B s)
+  unknowns-of p e = ap hasUnknowns (ap (ruleOf B) e ∙ rule-asked B f s)
 
   module _ (M : Question) {head all : ℕ} (h : head ≡ relationsOf (ruleAt B s .head)) (a : all ≡ relationsOf M) where
     nothing-related : bitAnd head all ≡ 0 → (n : ℕ) → next apart (ruleAt B s) M n ≡ none
@@ -62,3 +73,20 @@ found-few B p r Q q n g x = go (next 48 (ruleOf B p) (questionOf stored Q) n) re
     go none i e = let z : g .choice ≡ 0 = ap (λ (y : Found). y .choice) e in omega (arith, z)
     go (some y) i e =
         found-within Q B p q r n g (e ∙ ap foundOf (sym i)) (ap (λ (z : Found). z .found) e) .1
+
+-- what is read of a flag
+pub flag-read : (x : ℕ) (b : Bool) → x ≡ cond b 1 0 → eqb x 1 ≡ b
+flag-read x true e = ap (λ (y : ℕ). eqb y 1) e
+flag-read x false e = ap (λ (y : ℕ). eqb y 1) e
+
+-- what holds of the first m after the place i, and of v, holds of one more once v is stored after them
+pub stored-after : (l : List ℕ) (i m v : ℕ) (f : ℕ → ℕ) → i + m < length l
+    → ((j : ℕ) → j < m → getD l (i + j) 0 ≡ f j) → v ≡ f m
+    → (j : ℕ) → j ≤ m → getD (set l (i + m) v) (i + j) 0 ≡ f j
+stored-after l i m v f fits below e j small = go (le-or-lt m j)
+  where
+    go : (m ≤ j) ⊎ (j < m) → getD (set l (i + m) v) (i + j) 0 ≡ f j
+    go (inl g) =
+        let d : m ≡ j = omega arith in
+        subst (λ (x : ℕ). getD (set l (i + m) v) (i + x) 0 ≡ f x) d (getD-set-same l (i + m) v 0 fits ∙ e)
+    go (inr g) = getD-set-other l (i + m) (i + j) v 0 (λ d. omega arith) ∙ below j g

@@ -1,6 +1,8 @@
 // Which rules can have a rewriting: those with a head relation that stands in the member. The sets of their head relations
-// are made once, and then a rule without one is passed over by a look at two words.
+// are made once, and then a rule without one is passed over by a look at two words. So is it asked once of each rule
+// whether it has existential variables.
 ghost use mathlib.Core.Path.{_≡_};
+ghost use mathlib.Core.Bool.{cond};
 ghost use Prim.Native.Nat.{_+_, _≤_, _<_};
 ghost use lib.ListN.{length};
 ghost use Rattle.covering.specs.Record.{stored, questionOf};
@@ -12,38 +14,52 @@ ghost use Rattle.book.specs.Parts.{StartsAt, partsAt};
 ghost use Rattle.lister.specs.Listing.{RuleIn, QuestionIn, FoundIs};
 ghost use Rattle.lister.specs.Counts.{mostChoices};
 ghost use Rattle.unification.specs.Step.{next};
+ghost use Rattle.unify.specs.Unknowns.{hasUnknowns};
 ghost use Rattle.exploration.specs.Run.{apart};
 ghost use Rattle.explore.specs.Related.{HeadSets};
 use covering::RECORD;
 use lister::Found;
 
 // The most rules of a book.
-const RULES: usize = 32;
+pub const RULES: usize = 32;
 
-// For each rule of the book the set of its head's relations.
-pub fn head_sets(book: &[u8], rules: usize, starts: &[usize]) -> [u64; RULES]
+// 1 for yes, 0 for no.
+fn flag(yes: bool) -> u64
+    ensures { λ r. ⌜ r ≡ cond yes 1 0 ⌝ }
+{
+    if yes {
+        return 1;
+    }
+    0
+}
+
+// For each rule of the book the set of its head's relations; and after these for each rule 1, if it has existential
+// variables, else 0.
+pub fn head_sets(book: &[u8], rules: usize, starts: &[usize]) -> [u64; 64]
     requires { ⌜ SoundBook (now book)
         × (rules ≡ rulesOf (now book))
         × StartsAt (now book) (now starts)
         × (formOf (now book) ≡ new) ⌝ }
     ensures { λ r. ⌜ HeadSets (now (book .entry)) r ⌝ }
 {
-    let mut sets = [0u64; RULES];
+    let mut sets = [0u64; 64];
     let mut k = 0;
     while k < rules {
         let parts = book::rule_at(book, starts[k]);
         sets[k] = records::relations_at(book, parts.head, parts.heads);
+        sets[RULES + k] = flag(lister::has_unknowns(book, parts));
         k += 1;
     }
     sets
 }
 
 // The member's next rewriting by the rule at `start`, from choice `from` on. Where no relation of the rule's head, a set,
-// is one of the member's, there is none, and no choice is tried.
+// is one of the member's, there is none, and no choice is tried. `unknowns` is 1 if the rule has existential variables.
 pub fn next_by(
     book: &[u8],
     start: usize,
     head: u64,
+    unknowns: u64,
     member: &[u8; RECORD],
     all: u64,
     from: usize,
@@ -54,7 +70,8 @@ pub fn next_by(
         × RuleIn (now book) (partsAt (now book) start)
         × QuestionIn (now member)
         × (head ≡ relationsOf (ruleAt (now book) start .head))
-        × (all ≡ relationsOf (questionOf stored (now member))) ⌝ }
+        × (all ≡ relationsOf (questionOf stored (now member)))
+        × (unknowns ≡ cond (hasUnknowns (ruleAt (now book) start)) 1 0) ⌝ }
     ensures { λ r. ⌜ FoundIs
         (next apart (ruleAt (now (book .entry)) start) (questionOf stored (now (member .entry))) from)
         (now (out .entry))
@@ -68,5 +85,6 @@ pub fn next_by(
             choice: 0,
         };
     }
-    lister::next(member, book, book::rule_at(book, start), from, out)
+    let rule = book::rule_at(book, start);
+    lister::next(member, book, rule, unknowns == 1, from, out)
 }

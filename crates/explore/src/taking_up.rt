@@ -14,6 +14,7 @@ ghost use Rattle.explore.specs.Exploring.{OldestIs};
 ghost use Rattle.explore.specs.Related.{HeadSets};
 ghost use Rattle.explore.specs.Taking.{nextAmong, TakenIs};
 use super::Taken;
+use super::related::RULES;
 use super::related::next_by;
 use admit::Extent;
 use admit::FIRST;
@@ -34,7 +35,7 @@ pub fn oldest(work: &[u8], filled: Extent) -> [u8; RECORD]
 }
 
 // The first rewriting of the member from choice `from` of the k-th rule on: "rules in book order, choices in theirs". It
-// goes to the room lent, which stays as it came if there is none. `heads` has the sets of the rules' head relations.
+// goes to the room lent, which stays as it came if there is none. `heads` has what `head_sets` made.
 pub fn next_rewriting(
     book: &[u8],
     rules: usize,
@@ -67,7 +68,16 @@ pub fn next_rewriting(
     let mut rule = k;
     let mut choice = from;
     while rule < rules {
-        let found = next_by(book, starts[rule], heads[rule], member, all, choice, out);
+        let found = next_by(
+            book,
+            starts[rule],
+            heads[rule],
+            heads[RULES + rule],
+            member,
+            all,
+            choice,
+            out,
+        );
         if found.found {
             return Taken {
                 found: true,

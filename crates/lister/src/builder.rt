@@ -11,7 +11,6 @@ use book::Parts;
 use covering::RECORD;
 use forming::no_atoms;
 use unify::all_apart;
-use unify::has_unknowns;
 use unify::is_valid;
 use unify::join_atoms;
 use unify::some_stuck;
@@ -335,16 +334,31 @@ fn try_digit(
     )
 }
 
+// Whether the rule has existential variables.
+pub fn has_unknowns(book: &[u8], rule: Parts) -> bool
+    requires { ⌜ RuleIn (now book) rule ⌝ }
+    ensures { λ r. ⌜ r ≡ hasUnknowns (ruleOf (now (book .entry)) rule) ⌝ }
+{
+    let body = rule.body;
+    let bodies = rule.bodies;
+    let head = rule.head;
+    let heads = rule.heads;
+    unify::has_unknowns(book, body, bodies, head, heads)
+}
+
 // The first valid choice at or after `from`: its number, and its rewriting in form in the room lent; or that there is
-// none, and the room stays as it came.
+// none, and the room stays as it came. Whether the rule has existential variables is asked once for all its questions.
 pub fn next(
     question: &[u8; RECORD],
     book: &[u8],
     rule: Parts,
+    unknowns: bool,
     from: usize,
     out: &mut [u8; RECORD],
 ) -> Found
-    requires { ⌜ QuestionIn (now question) × RuleIn (now book) rule ⌝ }
+    requires { ⌜ QuestionIn (now question)
+        × RuleIn (now book) rule
+        × (unknowns ≡ hasUnknowns (ruleOf (now book) rule)) ⌝ }
     ensures { λ r. ⌜ FoundIs
         (nextOf 48 (ruleOf (now (book .entry)) rule) (questionOf stored (now (question .entry))) from)
         (now (out .entry))
@@ -352,11 +366,7 @@ pub fn next(
         (now (out .exit)) ⌝ }
 {
     let n = question[0] as usize;
-    let body = rule.body;
-    let bodies = rule.bodies;
-    let head = rule.head;
     let heads = rule.heads;
-    let unknowns = has_unknowns(book, body, bodies, head, heads);
     let counts = choice_counts(heads);
     let table = all_apart();
     let told = build(

@@ -9,6 +9,7 @@ mod powers;
 mod prefix;
 mod writing;
 
+pub use builder::has_unknowns;
 pub use builder::next;
 pub use prefix::after_prefix;
 pub use prefix::prefix_rewriting;

@@ -139,10 +139,11 @@ fn show(choice: usize, record: &[u8; RECORD]) {
 fn list(question: &[u8; RECORD], book: &[u8], rule: Parts)
     requires { ⌜ QuestionIn (now question) × RuleIn (now book) rule ⌝ }
 {
+    let unknowns = lister::has_unknowns(book, rule);
     let mut from: usize = 0;
     let mut rewriting = [255u8; RECORD];
     while from < MOST {
-        let r = lister::next(question, book, rule, from, &mut rewriting);
+        let r = lister::next(question, book, rule, unknowns, from, &mut rewriting);
         let found = r.found;
         if !found {
             return;

@@ -10,10 +10,10 @@ use Rattle.rewriting_examples.proofs.list.Tie as tie
 use Rattle.lister.specs.Counts.{mostChoices}
 
 abbrev Inv-loop : tie.InvT-loop
-Inv-loop question book rule from₀ rewriting₀ from rewriting = from ≤ mostChoices
+Inv-loop question book rule unknowns from₀ rewriting₀ from rewriting = from ≤ mostChoices
 
 abbrev μ-loop : tie.MeasureT-loop
-μ-loop question book rule from₀ rewriting₀ from rewriting = mostChoices - from
+μ-loop question book rule unknowns from₀ rewriting₀ from rewriting = mostChoices - from
 
 was-found : (b : Bool) → not b ≡ false → b ≡ true
 was-found true e = refl
@@ -25,9 +25,12 @@ within : (c : tie.After-show Inv-loop μ-loop)
     × (c .before .before .before .next .result .choice < mostChoices)
 within c =
     let n = c .before .before .before in
-    let s = n .before .before .before .before .before in
+    let s = n .before .before .before .before .before .before in
     found-within (s .args .question .now) (s .args .book .now) (s .args .rule) (s .pre .0) (s .pre .1) _ (n .next .result)
     (n .next .ensures .answer) (was-found _ (c .before .before .if1 .left))
+
+has-unknowns-requires : tie.Need-has-unknowns-requires Inv-loop μ-loop
+has-unknowns-requires c κs = search needs
 
 loop-holds : tie.Need-loop-holds Inv-loop μ-loop
 loop-holds c = search needs
@@ -59,6 +62,7 @@ list-spec =
     (tie.spec
     Inv-loop
     μ-loop
+    has-unknowns-requires
     loop-holds
     next-requires
     returns

@@ -1,10 +1,10 @@
 -- `explore::related::next_by` meets its contract: no choice is tried where no relation is in both sets, and else the lister
 -- is asked.
 use borrow.Author.Needs.{needs}
-use mathlib.Core.Path.{sym, subst}
+use mathlib.Core.Path.{sym, subst, _∙_}
 use Rattle.covering.specs.Record.{stored, questionOf}
 use Rattle.lister.specs.Listing.{RuleIn}
-use Rattle.explore.proofs.RelatedRules.{none-tried, found-by, found-few}
+use Rattle.explore.proofs.RelatedRules.{none-tried, found-by, found-few, unknowns-of, flag-read}
 use Rattle.explore.proofs.related.next_by.Statement.{statement}
 use Rattle.explore.proofs.related.next_by.Tie as tie
 
@@ -20,7 +20,10 @@ rule-at-requires c κs = let p = c .before .before .pre in (p .0, p .1)
 next-requires : tie.Need-next-requires
 next-requires c κs =
     let b = c .before .before .before .before in
-    (b .pre .3, subst (RuleIn (b .args .book .now)) (sym (c .before .rule-at .ensures)) (b .pre .2))
+    let B = b .args .book .now in
+    let parts = c .before .rule-at .ensures in
+    let told = flag-read _ _ (b .pre .6) ∙ sym (unknowns-of B (b .pre .1) _ _ parts) in
+    (b .pre .3, subst (RuleIn B) (sym parts) (b .pre .2), told)
 
 returns-2 : tie.Need-returns-2
 returns-2 c =

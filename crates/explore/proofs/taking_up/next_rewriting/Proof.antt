@@ -3,6 +3,7 @@
 use borrow.Author.Needs.{needs}
 use native.Mathlib.Omega.{arith}
 use mathlib.Core.Path.{_≡_, refl, sym, ap, _∙_, subst}
+use mathlib.Core.Bool.{cond}
 use mathlib.Core.List.{List}
 use Prim.Native.Nat.{ℕ, _-_, _≤_, _<_}
 use lib.ListN.{getD, drop}
@@ -13,6 +14,7 @@ use Rattle.reading.specs.Book.{ruleAt, rulesFrom, ruleStart, bookOf}
 use Rattle.reading.proofs.Reading.{rules-left}
 use Rattle.lister.specs.Listing.{FoundIs}
 use Rattle.records.specs.Relations.{relationsOf}
+use Rattle.unify.specs.Unknowns.{hasUnknowns}
 use Rattle.unification.specs.Step.{next}
 use Rattle.exploration.specs.Run.{apart}
 use Rattle.explore.specs.Taking.{nextAmong}
@@ -41,7 +43,7 @@ abbrev member-of : tie.In-loop Inv-loop μ-loop → Question
 member-of t = questionOf stored (start t .args .member .now)
 
 abbrev asking : tie.After-next-by Inv-loop μ-loop → tie.In-loop Inv-loop μ-loop
-asking n = n .before .before .before .before
+asking n = n .before .before .before .before .before
 
 -- the rule of this turn is one of the book's
 within : (t : tie.In-loop Inv-loop μ-loop) → t .before .loop .rule < rulesOf (book-of t)
@@ -59,13 +61,13 @@ found : (n : tie.After-next-by Inv-loop μ-loop)
     → FoundIs
     (next apart (ruleAt (book-of (asking n)) (ruleStart (book-of (asking n)) (asking n .before .loop .rule)))
     (member-of (asking n)) (asking n .before .loop .choice))
-    (asking n .before .loop .out) (n .next-by .result) (n .next-by .last .1 .1 .1 .1 .1 .1 .0)
+    (asking n .before .loop .out) (n .next-by .result) (n .next-by .last .1 .1 .1 .1 .1 .1 .1 .0)
 found n =
     let t = asking n in
     subst
     (λ (s : ℕ).
     FoundIs (next apart (ruleAt (book-of t) s) (member-of t) (t .before .loop .choice)) (t .before .loop .out)
-    (n .next-by .result) (n .next-by .last .1 .1 .1 .1 .1 .1 .0))
+    (n .next-by .result) (n .next-by .last .1 .1 .1 .1 .1 .1 .1 .0))
     (start-of t) (n .next-by .ensures .0)
 
 relations-requires : tie.Need-relations-requires Inv-loop μ-loop
@@ -93,9 +95,20 @@ shared-slice-read-next-by-2 c =
     let t = c .before .before in
     omega (arith, within t, rules-few (book-of t) (start t .pre .0), start t .pre .5 .size)
 
+add-next-by : tie.Need-add-next-by Inv-loop μ-loop
+add-next-by c = let t = c .before .before in omega (arith, within t, rules-few (book-of t) (start t .pre .0))
+
+mul-next-by-3 : tie.Need-mul-next-by-3 Inv-loop μ-loop
+mul-next-by-3 c = let t = c .before .before in omega (arith, within t, rules-few (book-of t) (start t .pre .0))
+
+shared-slice-read-next-by-3 : tie.Need-shared-slice-read-next-by-3 Inv-loop μ-loop
+shared-slice-read-next-by-3 c =
+    let t = c .before .before .before in
+    omega (arith, within t, rules-few (book-of t) (start t .pre .0), start t .pre .5 .size)
+
 next-by-requires : tie.Need-next-by-requires Inv-loop μ-loop
 next-by-requires c κs =
-    let t = c .before .before .before in
+    let t = c .before .before .before .before in
     let b = start t in
     let B = book-of t in
     let k = t .before .loop .rule in
@@ -106,6 +119,7 @@ next-by-requires c κs =
       b .pre .3,
       b .pre .5 .heads k (within t) ∙ ap (λ (s : ℕ). relationsOf (ruleAt B s .head)) at,
       t .before .before .relations .ensures,
+      b .pre .5 .unknowns k (within t) ∙ ap (λ (s : ℕ). cond (hasUnknowns (ruleAt B s)) 1 0) at,
     )
 
 returns : tie.Need-returns Inv-loop μ-loop
@@ -153,6 +167,9 @@ next-rewriting-spec =
     shared-slice-read-next-by
     mul-next-by-2
     shared-slice-read-next-by-2
+    add-next-by
+    mul-next-by-3
+    shared-slice-read-next-by-3
     next-by-requires
     returns
     add-rule

@@ -16,14 +16,9 @@ element-copy-out-n c = search needs
 cast-n : tie.Need-cast-n
 cast-n c = omega (arith, c .before .before .pre .0 .few)
 
-has-unknowns-requires : tie.Need-has-unknowns-requires
-has-unknowns-requires c κs =
-    let start = c .before .before in
-    (start .pre .1 .body .fits, start .pre .1 .head .fits)
-
 choice-counts-requires : tie.Need-choice-counts-requires
 choice-counts-requires c κs =
-    let r = c .before .before .before .pre .1 in
+    let r = c .before .before .pre .1 in
     (r .some-head, r .few-head)
 
 all-apart-requires : tie.Need-all-apart-requires
@@ -33,15 +28,13 @@ build-requires : tie.Need-build-requires
 build-requires c κs =
     let t = c .before .before .before in
     let n = t .before in
-    let u = n .before in
-    let start = u .before .before .before in
-    start-builds (start .pre .0) (start .pre .1) (t .all-apart .ensures) (n .choice-counts .ensures)
-    (u .has-unknowns .ensures)
+    let start = n .before .before .before in
+    start-builds (start .pre .0) (start .pre .1) (t .all-apart .ensures) (n .choice-counts .ensures) (start .pre .2)
 
 returns : tie.Need-returns
 returns c =
     let t = c .before .before .before .before .before in
-    let start = t .before .before .before .before .before in
+    let start = t .before .before .before .before in
     let Q = start .args .question .now in
     found-none _
     (told-same
@@ -49,13 +42,13 @@ returns c =
     (c .before .build .ensures))
     (c .if1 .taken)
 
-sub-t24 : tie.Need-sub-t24
-sub-t24 c = search needs
+sub-t21 : tie.Need-sub-t21
+sub-t21 c = search needs
 
 returns-2 : tie.Need-returns-2
 returns-2 c =
     let t = c .before .before .before .before .before in
-    let start = t .before .before .before .before .before in
+    let start = t .before .before .before .before in
     let Q = start .args .question .now in
     found-some _
     (told-same
@@ -69,10 +62,9 @@ next-spec =
     (tie.spec
     element-copy-out-n
     cast-n
-    has-unknowns-requires
     choice-counts-requires
     all-apart-requires
     build-requires
     returns
-    sub-t24
+    sub-t21
     returns-2)
