@@ -19,9 +19,11 @@ use Rattle.exploration.specs.Run.{State, remaining}
 use Rattle.exploration.specs.Union.{firstAt, outputSize}
 use Rattle.exploration.specs.Held.{heldBytes, heldFrom, heldEnd}
 use Rattle.admit.specs.WorkingArray.{Working, rest, HoldsState, stateIn, Remain}
+use Rattle.admit.specs.Sets.{SetsFrom, Beside}
 use Rattle.exploration.specs.Held.{Standing}
 use Rattle.exploration.proofs.HeldBytes.{held-total, held-most, held-append}
 use Rattle.admit.proofs.Stand.{held-stands, held-members}
+use Rattle.admit.proofs.Beside.{keep-whole, sets-split}
 use Rattle.exploration.proofs.Members.{members-count, ending, ending-none, ending-next, members-split}
 use Rattle.exploration.proofs.Members.{later, end-same, members-same}
 
@@ -104,6 +106,29 @@ module _ {W : List ℕ} {e : Extent} (w : Working W e) where
       standing-same W X (a .from) others (k .after)
       (subst (λ (i : ℕ). Standing W i others) (sym (k .passed)) (parts-stand .1))
 
+  others-members : (P : Question) {X : List ℕ} {a : Moved} → Remain W firstAt firstAt (e .front) P X a
+      → heldFrom X (a .from) others ≡ heldFrom W (ending W firstAt (e .front)) others
+  others-members P {X} {a} k =
+      members-same W X (a .from) others (k .after) ∙ ap (λ (i : ℕ). heldFrom W i others) (k .passed)
+
+  -- the sets beside the array, of the explored ones and of the others
+  module _ {S : List ℕ} (s : Beside S W (e .count)) where
+    in-parts : SetsFrom S 0 (heldFrom W firstAt (e .front))
+        × SetsFrom S (0 + length (heldFrom W firstAt (e .front))) (heldFrom W (ending W firstAt (e .front)) others)
+    in-parts = sets-split S _ _ 0 (subst (SetsFrom S 0) parts-are (s .sets))
+
+    pub explored-sets : SetsFrom S 0 (heldFrom W firstAt (e .front))
+    explored-sets = in-parts .0
+
+    pub others-sets : (P : Question) {X : List ℕ} {a : Moved} → Remain W firstAt firstAt (e .front) P X a
+        → SetsFrom S (e .front) (heldFrom X (a .from) (e .count - e .front))
+    others-sets P k =
+        subst (SetsFrom S (e .front)) (sym (others-members P k))
+        (subst (λ (i : ℕ). SetsFrom S i (heldFrom W (ending W firstAt (e .front)) others)) passed (in-parts .1))
+      where
+        passed : 0 + length (heldFrom W firstAt (e .front)) ≡ e .front
+        passed = omega (arith, members-count W firstAt (e .front))
+
   -- the removal: first the explored ones, then the others
   module _ (P : Question) {X Y : List ℕ} {a b : Moved} (k : Remain W firstAt firstAt (e .front) P X a)
       (l : Remain X (a .from) (a .to) (e .count - e .front) P Y b)
@@ -117,11 +142,8 @@ module _ {W : List ℕ} {e : Extent} (w : Working W e) where
       abbrev unexplored : List Question
       unexplored = heldFrom W (ending W firstAt (e .front)) others
 
-      there : drop (a .from) X ≡ drop (a .from) W
-      there = k .after
-
       second : heldFrom X (a .from) others ≡ unexplored
-      second = members-same W X (a .from) others there ∙ ap (λ (i : ℕ). heldFrom W i others) (k .passed)
+      second = others-members P k
 
       kept : State
       kept =
@@ -214,3 +236,21 @@ module _ {W : List ℕ} {e : Extent} (w : Working W e) where
       pub removed-state : stateIn Y (record { len = b .to; count = a .kept + b .kept; front = a .kept })
           ≡ rest (stateIn W e) P
       removed-state = state-held removed (λ M m. w .fits M (in-all M m)) ∙ kept-is
+
+      -- where none was removed the members are the same, and so are their sets
+      pub none-removed : {S : List ℕ} → Beside S W (e .count) → e .count ≤ a .kept + b .kept
+          → SetsFrom S 0 (heldFrom Y firstAt (a .kept + b .kept))
+      none-removed {S} s h = subst (SetsFrom S 0) (sym (now-are ∙ keep-whole (λ M. not (covers P M)) U all)) (s .sets)
+        where
+          now-are : heldFrom Y firstAt (a .kept + b .kept) ≡ remaining covers P U
+          now-are = ap (λ (t : State). t .members) removed-state
+
+          all : length U ≤ length (remaining covers P U)
+          all =
+              omega (
+                arith,
+                h,
+                ap length now-are,
+                members-count Y firstAt (a .kept + b .kept),
+                members-count W firstAt (e .count),
+              )

@@ -7,7 +7,7 @@ use Prim.Native.Nat.{ℕ, _+_, _≤_, _<_}
 use native.Mathlib.Omega.{arith}
 use borrow.Author.Tests.{le-ltb, lt-ltb}
 use lib.Dec.{T, ltb}
-use lib.ListN.{length, take, drop, length-append}
+use lib.ListN.{length, take, drop, set, length-set, length-append}
 use Rattle.covering.specs.Lists.{_∈_}
 use Rattle.covering.specs.Term.{Question}
 use Rattle.covering.specs.Search.{covers}
@@ -20,12 +20,15 @@ use Rattle.exploration.specs.Steps.{New}
 use Rattle.exploration.specs.Union.{firstAt, outputSize}
 use Rattle.exploration.specs.Held.{heldBytes, heldFrom}
 use Rattle.admit.specs.WorkingArray.{Working, beforeCovering, rest, FateIs, HoldsState, stateIn}
+use Rattle.admit.specs.Sets.{SetsFrom, Beside}
+use Rattle.records.specs.Relations.{relationsOf}
 use Rattle.exploration.proofs.Admits.{was-covered, was-long, was-full, was-admitted, admit-is}
 use Rattle.exploration.proofs.Members.{members-count}
 use Rattle.admit.proofs.Array.{state-held, held-working, len-most}
 use Rattle.exploration.proofs.HeldBytes.{held-total, held-most, held-last}
 use Rattle.admit.proofs.Holding.{held-appended}
 use Rattle.admit.proofs.Finding.{covering-found}
+use Rattle.admit.proofs.Beside.{sets-more}
 
 module _ (answers : ℕ) (one : answers ≤ 1) {W : List ℕ} {e : Extent} (w : Working W e) (P : Question) where
   abbrev U : List Question
@@ -128,3 +131,19 @@ module _ (answers : ℕ) (one : answers ≤ 1) {W : List ℕ} {e : Extent} (w : 
                     ∙ ap admitted (sym (state-held held all-fit ∙ is-appended)),
                 held-working held all-fit all-short (omega arith) (omega (arith, x .ahead)),
               )
+
+              -- and its set is stored beside those of the others
+              pub sets-appended : {S : List ℕ} {v : ℕ} → Beside S X (f .count) → v ≡ relationsOf P
+                  → Beside (set S (f .count) v) Y (f .count + 1)
+              unfolding next
+              sets-appended {S} {v} s is =
+                  record {
+                    size = length-set S (f .count) v ∙ s .size;
+                    sets =
+                        subst (SetsFrom (set S (f .count) v) 0)
+                        (sym (ap (λ (t : State). t .members) (state-held held all-fit)))
+                        (sets-more S (heldFrom X firstAt (f .count)) P 0 (f .count) v
+                        (omega (arith, members-count X firstAt (f .count)))
+                        (omega (arith, s .size))
+                        is (s .sets));
+                  }

@@ -4,6 +4,7 @@
 pub mod Holding
 pub mod Finding
 pub mod Stand
+pub mod Beside
 -- removing; admitting
 pub mod Removal
 pub mod Array

@@ -237,8 +237,15 @@ module _ (W : List ℕ) (from to n : ℕ) (P : Question) where
       pub within : at + (1 + getD X at 0 * 7) ≤ length X
       within = omega (arith, same-count, here .within, m .size)
 
+      pub part-same : take (length X - at) (drop at X) ≡ drop at W
+      part-same = part-is X at ∙ m .same
+
       pub sound-part : SoundRecord stored (take (length X - at) (drop at X))
-      sound-part = subst (SoundRecord stored) (sym (part-is X at ∙ m .same)) (here .sound)
+      sound-part = subst (SoundRecord stored) (sym part-same) (here .sound)
+
+      -- and the next one starts by its width on
+      pub place-as : {v : ℕ} → v ≡ width stored (getD X at 0) → at + v ≡ heldEnd W at
+      place-as q = ap (λ (k : ℕ). at + k) (as-wide q)
 
   -- the same midway, by other names of what it is about
   pub midway-as : {X Y : List ℕ} {at i end kept k l : ℕ} → Y ≡ X → k ≡ end → l ≡ kept

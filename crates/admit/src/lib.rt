@@ -4,6 +4,7 @@
 mod admitting;
 mod removing;
 mod searching;
+mod sets;
 mod working;
 
 pub use admitting::admit;
@@ -12,6 +13,9 @@ pub use working::append;
 
 // "Offset of the first member (8)".
 pub const FIRST: usize = 8;
+
+// "A 65th member": there is room for 64.
+pub const ROOM: usize = 64;
 
 // How far the working array is filled: where its members end, how many they are, and how many of them, from the first
 // on, are explored.

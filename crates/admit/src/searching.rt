@@ -6,23 +6,24 @@ ghost use lib.ListN.{replicate};
 ghost use Rattle.covering.specs.Search.{covers};
 ghost use Rattle.covering.specs.FirstMap.{mapOr};
 ghost use Rattle.covering.specs.Record.{stored, questionOf, SoundRecord};
-ghost use Rattle.records.specs.Relations.{areIn};
+ghost use Rattle.records.specs.Relations.{relationsOf, isPart};
 ghost use Rattle.exploration.specs.Run.{covered};
 ghost use Rattle.exploration.specs.Union.{firstAt};
 ghost use Rattle.exploration.specs.Held.{heldFrom};
 ghost use Rattle.admit.specs.WorkingArray.{beforeCovering, coveredBy};
+ghost use Rattle.admit.specs.Sets.{Beside};
 ghost use Rattle.exploration.specs.Held.{Standing};
 use super::FIRST;
+use super::ROOM;
 use cover::VARIABLES;
 use covering::RECORD;
 
-// Which of the w candidates for a member's first atom to begin with: the first, or, where a relation of the member does
-// not stand in the rewriting, so that it covers nothing there, the one after the last.
-fn first_asked(member: &[u8], there: u64, w: usize) -> usize
-    requires { ⌜ SoundRecord stored (now member) ⌝ }
-    ensures { λ r. ⌜ r ≡ cond (areIn there (questionOf stored (now (member .entry)))) 0 w ⌝ }
+// Which of the w candidates for a member's first atom to begin with: the first, or, where a relation of the member, a
+// set, does not stand in the rewriting, so that it covers nothing there, the one after the last.
+fn first_asked(set: u64, there: u64, w: usize) -> usize
+    ensures { λ r. ⌜ r ≡ cond (isPart set there) 0 w ⌝ }
 {
-    if records::are_among(member, there) {
+    if records::is_part(set, there) {
         return 0;
     }
     w
@@ -30,17 +31,22 @@ fn first_asked(member: &[u8], there: u64, w: usize) -> usize
 
 // The number of the first of the count members that covers the rewriting, count where none does. One candidate for the
 // member's first atom is asked at a time, so that the search ends at the first that serves, and the map that it found is
-// handed up beside the number. Of a member with a relation that does not stand in the rewriting none is asked.
+// handed up beside the number. Of a member with a relation that is not one of those `there`, the rewriting's, none is
+// asked.
 pub fn member_covering(
     work: &[u8],
+    sets: &[u64; ROOM],
     count: usize,
     rewriting: &[u8; RECORD],
+    there: u64,
     map: &mut [u8; VARIABLES],
 ) -> usize
     requires { ⌜ (count ≤ 64)
         × Standing (now work) firstAt count
         × SoundRecord stored (now rewriting)
-        × (now map ≡ replicate (stored .variables) 255) ⌝ }
+        × (now map ≡ replicate (stored .variables) 255)
+        × Beside (now sets) (now work) count
+        × (there ≡ relationsOf (questionOf stored (now rewriting))) ⌝ }
     ensures { λ r. ⌜ (r
         ≡ beforeCovering covers
         (questionOf stored (now (rewriting .entry)))
@@ -50,7 +56,6 @@ pub fn member_covering(
         (coveredBy (questionOf stored (now (rewriting .entry))) (heldFrom (now (work .entry)) firstAt count))) ⌝ }
 {
     let w = rewriting[0] as usize;
-    let there = records::relations(rewriting);
     let mut at = FIRST;
     let mut i = 0;
     let found = 'members: loop {
@@ -63,7 +68,7 @@ pub fn member_covering(
         }
         let width = records::width(work[at]);
         let member = &work[at..];
-        let mut k = first_asked(member, there, w);
+        let mut k = first_asked(sets[i], there, w);
         'atoms: loop {
             if w <= k {
                 break 'atoms;
@@ -80,13 +85,17 @@ pub fn member_covering(
 }
 
 // Whether one of the count members covers the question.
-pub fn is_covered(work: &[u8], count: usize, question: &[u8; RECORD]) -> bool
-    requires { ⌜ (count ≤ 64) × Standing (now work) firstAt count × SoundRecord stored (now question) ⌝ }
+pub fn is_covered(work: &[u8], sets: &[u64; ROOM], count: usize, question: &[u8; RECORD]) -> bool
+    requires { ⌜ (count ≤ 64)
+        × Standing (now work) firstAt count
+        × SoundRecord stored (now question)
+        × Beside (now sets) (now work) count ⌝ }
     ensures { λ r. ⌜ r
         ≡ covered covers
         (questionOf stored (now (question .entry)))
         (heldFrom (now (work .entry)) firstAt count) ⌝ }
 {
+    let there = records::relations(question);
     let mut map = [255u8; VARIABLES];
-    member_covering(work, count, question, &mut map) < count
+    member_covering(work, sets, count, question, there, &mut map) < count
 }

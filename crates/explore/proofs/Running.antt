@@ -29,11 +29,14 @@ use Rattle.exploration.specs.Union.{firstAt, outputSize}
 use Rattle.exploration.specs.Answer.{outcomeOf}
 use Rattle.exploration.specs.Refusals.{limitsOf}
 use Rattle.admit.specs.WorkingArray.{Working, HoldsState, stateIn}
+use Rattle.admit.specs.Sets.{SetsFrom, Beside}
+use Rattle.records.specs.Relations.{relationsOf}
 use Rattle.explore.specs.Exploring.{MemberIn, ExploredIs, RanIs}
 use Rattle.explore.proofs.Records.{member-question}
 use Rattle.covering.proofs.Padded.{stored-sound, stored-question}
 use Rattle.exploration.proofs.HeldBytes.{held-total}
 use Rattle.admit.proofs.Holding.{held-appended}
+use Rattle.admit.proofs.Stand.{held-members}
 use Rattle.exploration.proofs.Members.{members-count}
 use Rattle.admit.proofs.Array.{state-held, held-working}
 use Rattle.exploration.proofs.Turns.{turn-complete, turn-ten, turn-explores}
@@ -120,6 +123,14 @@ module _ (B : List ℕ) where
             all : allowed ≡ allowed - 0
             all = omega arith
 
+        beside-first : (S : List ℕ) → length S ≡ 64 → getD S 0 0 ≡ relationsOf (form (joined (bookOf B .question))) → Beside S X 1
+        unfolding SetsFrom
+        beside-first S size e =
+            record {
+              size = size;
+              sets = subst (SetsFrom S 0) (sym (held-members X held (each (Fits stored) fits))) (e, tt);
+            }
+
     -- as `append` is given it
     module _ (R : List ℕ) (is : R ≡ heldIn stored recordRoom (form (joined (bookOf B .question)))) where
       pub first-sound : SoundRecord stored R
@@ -138,6 +149,16 @@ module _ (B : List ℕ) where
           running-first X r
           (subst (λ (A : Question). r ≡ firstAt + length (recordBytes stored A)) first-question end)
           (subst (λ (A : Question). X ≡ take firstAt W ++ (recordBytes stored A ++ drop r W)) first-question put)
+
+      -- and the sets beside it
+      pub first-beside : (X : List ℕ) (r : ℕ) → r ≡ firstAt + length (recordBytes stored (questionOf stored R))
+          → X ≡ take firstAt W ++ (recordBytes stored (questionOf stored R) ++ drop r W)
+          → (S : List ℕ) → length S ≡ 64 → getD S 0 0 ≡ relationsOf (questionOf stored R) → Beside S X 1
+      first-beside X r end put S size e =
+          beside-first X r
+          (subst (λ (A : Question). r ≡ firstAt + length (recordBytes stored A)) first-question end)
+          (subst (λ (A : Question). X ≡ take firstAt W ++ (recordBytes stored A ++ drop r W)) first-question put)
+          S size (e ∙ ap relationsOf first-question)
 
   pub allowed-read : (h : Header) → HeaderRead B h → h .allowed ≡ bookOf B .allowed
   allowed-read h r = ap (λ (x : Header). x .allowed) (r .is) ∙ sym (book-allowed B)

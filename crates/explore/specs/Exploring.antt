@@ -19,6 +19,7 @@ use Rattle.explore.specs.declared.Ran.the-variants.{Complete, Refused as
 use Rattle.exploration.specs.Run.{Limits, Why, refusalNumber, passed, failed, Outcome, complete, refused, oldest}
 use Rattle.exploration.specs.Run.{through, allRewritings}
 use Rattle.admit.specs.WorkingArray.{stateIn, Working}
+use Rattle.admit.specs.Sets.{Beside}
 
 -- "the oldest unexplored member", as a record of 85 bytes
 abbrev pub OldestIs : List ℕ → Extent → List ℕ → Type 0
@@ -37,6 +38,11 @@ ExploredIs lim rules M W e X (Passed f) =
     (through covers lim M (allRewritings rules M) (stateIn W e) ≡ passed (stateIn X f)) × Working X f
 ExploredIs lim rules M W e X (NotExplored n) =
     (w : Why) × (through covers lim M (allRewritings rules M) (stateIn W e) ≡ failed w) × (n ≡ refusalNumber w)
+
+-- the sets of relations beside that array then
+abbrev pub SetsLeft : List ℕ → List ℕ → Explored → Type 0
+SetsLeft S X (Passed f) = Beside S X (f .count)
+SetsLeft S X (NotExplored n) = Unit {0}
 
 -- what becomes of the run, whose outcome is o; complete, the working array X holds the members
 abbrev pub RanIs : Outcome → List ℕ → Ran → Type 0

@@ -6,7 +6,8 @@ ghost use Rattle.reading.specs.Book.{bookOf};
 ghost use Rattle.reading.specs.Verdict.{SoundBook};
 ghost use Rattle.book.specs.Parts.{StartsAt};
 ghost use Rattle.admit.specs.WorkingArray.{Working};
-ghost use Rattle.explore.specs.Exploring.{MemberIn, ExploredIs};
+ghost use Rattle.admit.specs.Sets.{Beside};
+ghost use Rattle.explore.specs.Exploring.{MemberIn, ExploredIs, SetsLeft};
 ghost use Rattle.explore.specs.Related.{HeadSets};
 ghost use Rattle.exploration.specs.Refusals.{answersOf, limitsOf};
 use super::Explored;
@@ -15,6 +16,7 @@ use super::skipping::fresh;
 use super::taking_up::next_rewriting;
 use admit::Extent;
 use admit::Fate;
+use admit::ROOM;
 use admit::admit;
 use covering::RECORD;
 
@@ -27,6 +29,7 @@ pub fn explore(
     heads: &[u64],
     member: &[u8; RECORD],
     work: &mut [u8],
+    sets: &mut [u64; ROOM],
     filled: Extent,
     answers: u8,
 ) -> Explored
@@ -37,7 +40,8 @@ pub fn explore(
         × Working (now work) filled
         × (answers ≡ answersOf (now book))
         × (formOf (now book) ≡ new)
-        × HeadSets (now book) (now heads) ⌝ }
+        × HeadSets (now book) (now heads)
+        × Beside (now sets) (now work) (filled .count) ⌝ }
     ensures { λ r. ⌜ ExploredIs
         (limitsOf (now (book .entry)))
         (bookOf (now (book .entry)) .rules)
@@ -45,7 +49,8 @@ pub fn explore(
         (now (work .entry))
         filled
         (now (work .exit))
-        r ⌝ }
+        r
+        × SetsLeft (now (sets .exit)) (now (work .exit)) r ⌝ }
 {
     let mut held = filled;
     let mut rule = 0;
@@ -59,7 +64,7 @@ pub fn explore(
         }
         rule = taken.rule;
         from = taken.choice + 1;
-        let fate = admit(work, held, &room, answers);
+        let fate = admit(work, sets, held, &room, answers);
         match fate {
             Fate::Dropped => {
                 let resumed = after_drop(
@@ -67,6 +72,7 @@ pub fn explore(
                     starts,
                     member,
                     work,
+                    sets,
                     held.count,
                     rule,
                     taken.choice,

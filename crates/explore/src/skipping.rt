@@ -13,9 +13,11 @@ ghost use Rattle.unification.specs.Choice.{count};
 ghost use Rattle.lister.specs.Listing.{ruleOf, RuleIn, QuestionIn};
 ghost use Rattle.exploration.specs.Union.{firstAt};
 ghost use Rattle.exploration.specs.Held.{heldFrom, Standing};
+ghost use Rattle.admit.specs.Sets.{Beside};
 ghost use Rattle.explore.specs.Skipping.{PrefixCovered, GoesOn};
 use super::Patience;
 use super::Resumed;
+use admit::ROOM;
 use admit::is_covered;
 use book::Parts;
 use book::rule_at;
@@ -33,6 +35,7 @@ fn prefix_covered(
     rule: Parts,
     member: &[u8],
     work: &[u8],
+    sets: &[u64; ROOM],
     members: usize,
     choice: usize,
     p: usize,
@@ -42,7 +45,8 @@ fn prefix_covered(
         × (members ≤ 64)
         × Standing (now work) firstAt members
         × (p < getD (now member) 0 0)
-        × (choice < count (rule .heads) (getD (now member) 0 0)) ⌝ }
+        × (choice < count (rule .heads) (getD (now member) 0 0))
+        × Beside (now sets) (now work) members ⌝ }
     ensures { λ r. ⌜ PrefixCovered
         (ruleOf (now (book .entry)) rule)
         (questionOf stored (now (member .entry)))
@@ -56,7 +60,7 @@ fn prefix_covered(
         return false;
     }
     let question = settled.rewriting;
-    is_covered(work, members, &question)
+    is_covered(work, sets, members, &question)
 }
 
 // How many digits the shortest prefix has that is asked, for n atoms: the table of choice counts ends at eight to come.
@@ -76,6 +80,7 @@ fn after_covered(
     rule: Parts,
     member: &[u8],
     work: &[u8],
+    sets: &[u64; ROOM],
     members: usize,
     choice: usize,
 ) -> usize
@@ -83,7 +88,8 @@ fn after_covered(
         × RuleIn (now book) rule
         × (members ≤ 64)
         × Standing (now work) firstAt members
-        × (choice < count (rule .heads) (getD (now member) 0 0)) ⌝ }
+        × (choice < count (rule .heads) (getD (now member) 0 0))
+        × Beside (now sets) (now work) members ⌝ }
     ensures { λ r. ⌜ GoesOn
         (ruleOf (now (book .entry)) rule)
         (questionOf stored (now (member .entry)))
@@ -97,7 +103,7 @@ fn after_covered(
     let mut p = n;
     while least < p {
         p -= 1;
-        if !prefix_covered(book, rule, member, work, members, choice, p) {
+        if !prefix_covered(book, rule, member, work, sets, members, choice, p) {
             return from;
         }
         from = after_prefix(member, rule, choice, p);
@@ -143,6 +149,7 @@ pub fn after_drop(
     starts: &[usize],
     member: &[u8],
     work: &[u8],
+    sets: &[u64; ROOM],
     members: usize,
     rule: usize,
     choice: usize,
@@ -156,7 +163,8 @@ pub fn after_drop(
         × Standing (now work) firstAt members
         × (rule < rulesOf (now book))
         × (choice
-        < count (length (ruleAt (now book) (ruleStart (now book) rule) .head)) (getD (now member) 0 0)) ⌝ }
+        < count (length (ruleAt (now book) (ruleStart (now book) rule) .head)) (getD (now member) 0 0))
+        × Beside (now sets) (now work) members ⌝ }
     ensures { λ r. ⌜ GoesOn
         (ruleAt (now (book .entry)) (ruleStart (now (book .entry)) rule))
         (questionOf stored (now (member .entry)))
@@ -180,6 +188,7 @@ pub fn after_drop(
         rule_at(book, starts[rule]),
         member,
         work,
+        sets,
         members,
         choice,
     );

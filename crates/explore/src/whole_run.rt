@@ -1,11 +1,12 @@
 // The run: one book in, the whole union or a numbered refusal out.
 ghost use mathlib.Core.Path.{_≡_};
 ghost use Prim.Native.Nat.{_≤_};
-ghost use lib.ListN.{length};
+ghost use lib.ListN.{length, getD};
 ghost use Rattle.covering.specs.Form.{form};
-ghost use Rattle.covering.specs.Record.{stored};
+ghost use Rattle.covering.specs.Record.{stored, questionOf, SoundRecord};
 ghost use Rattle.covering.specs.Buffer.{heldIn, recordRoom};
 ghost use Rattle.covering.specs.Asking.{joined};
+ghost use Rattle.records.specs.Relations.{relationsOf};
 ghost use Rattle.reading.specs.Header.{formOf, new};
 ghost use Rattle.reading.specs.Book.{bookOf};
 ghost use Rattle.reading.specs.Verdict.{SoundBook};
@@ -22,6 +23,7 @@ use super::related::head_sets;
 use super::taking_up::oldest;
 use admit::Extent;
 use admit::FIRST;
+use admit::ROOM;
 use admit::append;
 use covering::RECORD;
 use forms::BOOK;
@@ -34,6 +36,16 @@ fn first_member(book: &[u8]) -> [u8; RECORD]
     ensures { λ r. ⌜ r ≡ heldIn stored recordRoom (form (joined (bookOf (now (book .entry)) .question))) ⌝ }
 {
     forming::in_form(book::question(book))
+}
+
+// The sets of relations beside a working array with that member alone.
+fn sets_of_one(member: &[u8; RECORD]) -> [u64; ROOM]
+    requires { ⌜ SoundRecord stored (now member) ⌝ }
+    ensures { λ r. ⌜ (length r ≡ 64) × (getD r 0 0 ≡ relationsOf (questionOf stored (now (member .entry)))) ⌝ }
+{
+    let mut sets = [0u64; ROOM];
+    sets[0] = records::relations(member);
+    sets
 }
 
 // How many answer records the book's question has, and so each member.
@@ -58,6 +70,7 @@ fn explore_all(book: &[u8], work: &mut [u8]) -> Ran
     let heads = head_sets(book, rules, &starts);
     let first = first_member(book);
     let len = append(work, FIRST, &first);
+    let mut sets = sets_of_one(&first);
     let mut filled = Extent {
         len: len,
         count: 1,
@@ -71,7 +84,17 @@ fn explore_all(book: &[u8], work: &mut [u8]) -> Ran
         let member = oldest(work, filled);
         taken += 1;
         filled.front += 1;
-        let explored = explore(book, rules, &starts, &heads, &member, work, filled, answers);
+        let explored = explore(
+            book,
+            rules,
+            &starts,
+            &heads,
+            &member,
+            work,
+            &mut sets,
+            filled,
+            answers,
+        );
         match explored {
             Explored::Passed(next) => filled = next,
             Explored::Refused(number) => return Ran::Refused(number, taken),

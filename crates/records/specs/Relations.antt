@@ -29,3 +29,7 @@ relationsOf A = joinedTo 0 A
 -- whether all relations of A are in the set
 unfoldable pub areIn : ℕ → Question → Bool
 areIn s A = all (λ a. isIn s (a .rel)) A
+
+-- whether every relation of the first set is in the second
+unfoldable pub isPart : ℕ → ℕ → Bool
+isPart s t = eqb (bitOr s t) t

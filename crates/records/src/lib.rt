@@ -12,6 +12,7 @@ pub use record::answers;
 pub use record::is_record;
 pub use record::width;
 pub use sets::are_among;
+pub use sets::is_part;
 pub use sets::relations;
 pub use sets::relations_at;
 

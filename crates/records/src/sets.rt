@@ -4,7 +4,7 @@ ghost use mathlib.Core.Path.{_≡_};
 ghost use Prim.Native.Nat.{_+_, _*_, _≤_};
 ghost use lib.ListN.{length};
 ghost use Rattle.covering.specs.Record.{stored, atomsAt, questionOf, SoundRecord};
-ghost use Rattle.records.specs.Relations.{relationsOf, areIn};
+ghost use Rattle.records.specs.Relations.{relationsOf, areIn, isPart};
 
 // The set of the relations of the n atoms of s from i on.
 pub fn relations_at(s: &[u8], i: usize, n: usize) -> u64
@@ -45,4 +45,11 @@ pub fn are_among(s: &[u8], set: u64) -> bool
         more -= 1;
     }
     true
+}
+
+// Whether every relation of the set s is in the set t.
+pub fn is_part(s: u64, t: u64) -> bool
+    ensures { λ r. ⌜ r ≡ isPart s t ⌝ }
+{
+    s | t == t
 }

@@ -16,6 +16,8 @@ use Rattle.cover.specs.Candidates.{foundOn}
 use Rattle.covering.specs.Record.{stored, atomsAt, questionOf, SoundRecord}
 use Rattle.exploration.specs.Held.{heldFrom, Standing}
 use Rattle.admit.specs.WorkingArray.{beforeCovering, coveredBy}
+use Rattle.admit.specs.Sets.{SetsFrom}
+use Rattle.admit.proofs.Beside.{sets-here}
 use Rattle.admit.proofs.Finding.{maps-end, maps-hit, maps-miss, map-asked, map-none, first-end, first-hit}
 use Rattle.admit.proofs.Finding.{first-miss, by-end, by-hit, by-miss, on-nowhere, found-here, covers-is}
 use Rattle.cover.proofs.Maps.{searched-map, nowhere-map}
@@ -26,7 +28,7 @@ use Rattle.admit.proofs.searching.member_covering.Statement.{statement}
 use Rattle.admit.proofs.searching.member_covering.Tie as tie
 
 abbrev Inv-atoms : tie.InvT-atoms
-Inv-atoms work count rewriting map₀ w there at i width member k₀ map k =
+Inv-atoms work sets count rewriting there map₀ w at i width member k₀ map k =
     (k ≤ w)
     × (map ≡ replicate 96 255)
     × (firstMap (questionOf stored (drop at work)) (questionOf stored rewriting)
@@ -34,7 +36,7 @@ Inv-atoms work count rewriting map₀ w there at i width member k₀ map k =
     (atomsAt stored rewriting (1 + k * 7) (w - k)))
 
 abbrev Inv-members : tie.InvT-members
-Inv-members work count rewriting map₀ w there at₀ i₀ map at i =
+Inv-members work sets count rewriting there map₀ w at₀ i₀ map at i =
     (i ≤ count)
     × Standing work at (count - i)
     × (beforeCovering covers (questionOf stored rewriting) (heldFrom work 8 count)
@@ -42,19 +44,20 @@ Inv-members work count rewriting map₀ w there at₀ i₀ map at i =
     × (map ≡ replicate 96 255)
     × (coveredBy (questionOf stored rewriting) (heldFrom work 8 count)
     ≡ coveredBy (questionOf stored rewriting) (heldFrom work at (count - i)))
+    × SetsFrom sets i (heldFrom work at (count - i))
 
 abbrev μ-atoms : tie.MeasureT-atoms
-μ-atoms work count rewriting map₀ w there at i width member k₀ map k = w - k
+μ-atoms work sets count rewriting there map₀ w at i width member k₀ map k = w - k
 
 abbrev μ-members : tie.MeasureT-members
-μ-members work count rewriting map₀ w there at₀ i₀ map at i = count - i
+μ-members work sets count rewriting there map₀ w at₀ i₀ map at i = count - i
 
 -- where the function began, and where this turn did, from the loop over candidates
 abbrev start : tie.Else1 Inv-atoms μ-atoms Inv-members μ-members → tie.Start Inv-atoms μ-atoms Inv-members μ-members
-start c = c .before .before .before .before .before .before
+start c = c .before .before .before .before
 
 abbrev turn : tie.At-atoms Inv-atoms μ-atoms Inv-members μ-members → tie.Else1 Inv-atoms μ-atoms Inv-members μ-members
-turn c = c .before .before .before .before .before .before .before
+turn c = c .before .before .before .before .before .before .before .before
 
 -- the member of this turn
 here : (c : tie.Else1 Inv-atoms μ-atoms Inv-members μ-members)
@@ -74,13 +77,10 @@ element-copy-out-w c = search needs
 cast-w : tie.Need-cast-w Inv-atoms μ-atoms Inv-members μ-members
 cast-w c = search needs
 
-relations-requires : tie.Need-relations-requires Inv-atoms μ-atoms Inv-members μ-members
-relations-requires c κs = search needs
-
 members-holds : tie.Need-members-holds Inv-atoms μ-atoms Inv-members μ-members
 members-holds c =
-    let s = c .before .before .before .before in
-    (search needs, rw sub-zero (s .pre .1), rw (sub-zero, zero-add), s .pre .3, rw sub-zero refl)
+    let s = c .before .before in
+    (search needs, rw sub-zero (s .pre .1), rw (sub-zero, zero-add), s .pre .3, rw sub-zero refl, rw sub-zero (s .pre .4 .sets))
 
 shared-slice-read-if2 : tie.Need-shared-slice-read-if2 Inv-atoms μ-atoms Inv-members μ-members
 shared-slice-read-if2 c = omega (arith, here (c .before))
@@ -100,18 +100,23 @@ part-member-start c = omega (arith, here (c .before .before .before .before))
 part-member-end : tie.Need-part-member-end Inv-atoms μ-atoms Inv-members μ-members
 part-member-end c = search needs
 
+mul-first-asked : tie.Need-mul-first-asked Inv-atoms μ-atoms Inv-members μ-members
+mul-first-asked c = search needs
+
+element-copy-out-first-asked : tie.Need-element-copy-out-first-asked Inv-atoms μ-atoms Inv-members μ-members
+element-copy-out-first-asked c = search needs
+
 first-asked-requires : tie.Need-first-asked-requires Inv-atoms μ-atoms Inv-members μ-members
-first-asked-requires c κs =
-    let b = c .before .before .before .before .before in
-    subst (SoundRecord stored) (sym (part-is (start b .args .work .now) (b .before .members .at))) (here b .sound)
+first-asked-requires c κs = search needs
 
 atoms-holds : tie.Need-atoms-holds Inv-atoms μ-atoms Inv-members μ-members
 atoms-holds c =
-    let e = c .before .before .before .before in
+    let e = c .before .before .before .before .before in
     let b = e .before .before in
-    let part = part-is (start b .args .work .now) (b .before .members .at) in
-    let asked = map-asked _ _ (some e) (b .before .before .relations .ensures) _ _ part (c .first-asked .ensures) in
-    (asked .0, b .before .members .inv .3, asked .1)
+    let m = b .before .members in
+    let own = sets-here _ _ (m .at) _ _ _ (b .if1 .left) (m .inv .5) .0 in
+    let asked = map-asked _ _ (some e) own (start b .pre .5) _ (c .first-asked .ensures) in
+    (asked .0, m .inv .3, asked .1)
 
 covers-on-requires : tie.Need-covers-on-requires Inv-atoms μ-atoms Inv-members μ-members
 covers-on-requires c κs =
@@ -122,7 +127,7 @@ covers-on-requires c κs =
       a .pre .2,
       ap length (c .before .before .atoms .inv .1),
       search needs,
-      subst (λ (M : List ℕ). 1 ≤ getD M 0 0) part (some (c .before .before .before .before .before .before .before)),
+      subst (λ (M : List ℕ). 1 ≤ getD M 0 0) part (some (c .before .before .before .before .before .before .before .before)),
     )
 
 add-k : tie.Need-add-k Inv-atoms μ-atoms Inv-members μ-members
@@ -144,7 +149,7 @@ atoms-again c =
     )
 
 add-at : tie.Need-add-at Inv-atoms μ-atoms Inv-members μ-members
-add-at c = omega (arith, here (turn (c .before)), c .before .before .before .before .width .ensures)
+add-at c = omega (arith, here (turn (c .before)), c .before .before .before .before .before .width .ensures)
 
 add-i : tie.Need-add-i Inv-atoms μ-atoms Inv-members μ-members
 add-i c = search needs
@@ -168,17 +173,19 @@ members-again c =
     Standing W (at + k) (n - (i + 1))
     × (beforeCovering covers P (heldFrom W at (n - i))
     ≡ suc (beforeCovering covers P (heldFrom W (at + k) (n - (i + 1)))))
-    × (coveredBy P (heldFrom W at (n - i)) ≡ coveredBy P (heldFrom W (at + k) (n - (i + 1)))))
-    (sym (c .before .before .before .before .width .ensures)) (
+    × (coveredBy P (heldFrom W at (n - i)) ≡ coveredBy P (heldFrom W (at + k) (n - (i + 1))))
+    × SetsFrom (a .sets .now) (i + 1) (heldFrom W (at + k) (n - (i + 1))))
+    (sym (c .before .before .before .before .before .width .ensures)) (
       here b .rest,
       first-miss covers P W at i n (b .if1 .left) (covers-is _ _ ∙ ap isSome none-here),
       by-miss P W at i n (b .if1 .left) (ap isSome none-here),
+      sets-here _ W at i n i (b .if1 .left) (b .before .members .inv .5) .1,
     ) in
-    (search needs, next .0, omega (arith, b .before .members .inv .2, next .1), c .before .atoms .inv .1, b .before .members .inv .4 ∙ next .2)
+    (search needs, next .0, omega (arith, b .before .members .inv .2, next .1), c .before .atoms .inv .1, b .before .members .inv .4 ∙ next .2, next .3)
 
 returns : tie.Need-returns Inv-atoms μ-atoms Inv-members μ-members
 returns c =
-    let a = c .before .before .before .before .before .before .args in
+    let a = c .before .before .before .before .args in
     let e =
     first-end covers (questionOf stored (a .rewriting .now)) (a .work .now) (c .before .members .at)
     (c .before .members .i) (a .count) (c .if1 .taken) in
@@ -228,7 +235,6 @@ member-covering-spec =
     μ-members
     element-copy-out-w
     cast-w
-    relations-requires
     members-holds
     shared-slice-read-if2
     shared-slice-read-width
@@ -236,6 +242,8 @@ member-covering-spec =
     sub-member
     part-member-start
     part-member-end
+    mul-first-asked
+    element-copy-out-first-asked
     first-asked-requires
     atoms-holds
     covers-on-requires

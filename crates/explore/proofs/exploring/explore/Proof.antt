@@ -24,6 +24,7 @@ use Rattle.admit.specs.declared.Fate.the-variants.{Dropped, Appended, Refused}
 use Rattle.exploration.specs.Run.{apart, allRewritings, limitsFor}
 use Rattle.exploration.specs.Refusals.{limitsOf}
 use Rattle.admit.specs.WorkingArray.{FateIs}
+use Rattle.admit.specs.Sets.{Beside, BesideAfter}
 use Rattle.admit.proofs.Array.{stands-all}
 use Rattle.exploration.specs.Union.{firstAt}
 use Rattle.exploration.specs.Held.{heldFrom}
@@ -39,11 +40,12 @@ use Rattle.explore.proofs.exploring.explore.Tie as tie
 use Rattle.exploration.proofs.OfBook.{answers-few}
 
 abbrev Inv-loop : tie.InvT-loop
-Inv-loop book rules starts heads member work₀ answers held₀ rule₀ from₀ room₀ patience₀ work held rule from room patience =
+Inv-loop book rules starts heads member work₀ sets₀ answers held₀ rule₀ from₀ room₀ patience₀ work sets held rule from room patience =
     Onward (limitsOf book) (bookOf book .rules) (questionOf stored member) work₀ held₀ work held rule from
+    × Beside sets work (held .count)
 
 abbrev μ-loop : tie.MeasureT-loop
-μ-loop book rules starts heads member work₀ answers held₀ rule₀ from₀ room₀ patience₀ work held rule from room patience =
+μ-loop book rules starts heads member work₀ sets₀ answers held₀ rule₀ from₀ room₀ patience₀ work sets held rule from room patience =
     length (coming (questionOf stored member) from (drop rule (bookOf book .rules)))
 
 -- points of the walk: where a turn begins, where the function began, the turn that has a rewriting
@@ -54,7 +56,7 @@ abbrev start : tie.At-loop Inv-loop μ-loop → tie.Start Inv-loop μ-loop
 start l = l .before .before .before .before .before .before
 
 abbrev having : tie.After-admit Inv-loop μ-loop → tie.Else1 Inv-loop μ-loop
-having x = x .before .before .before .before
+having x = x .before .before .before .before .before
 
 abbrev rules-of : tie.At-loop Inv-loop μ-loop → List Rule
 rules-of l = bookOf (start l .args .book .now) .rules
@@ -72,7 +74,7 @@ given : (e : tie.Else1 Inv-loop μ-loop)
 given e = given-some _ _ _ _ _ _ _ (e .before .before .next-rewriting .ensures .0) (not-false _ (e .if1 .left))
 
 listed : (e : tie.Else1 Inv-loop μ-loop) → given e .rewriting ∈ allRewritings (rules-of (turn e)) (member-of (turn e))
-listed e = rewriting-in _ _ _ _ _ (turn e .loop .inv) (given e)
+listed e = rewriting-in _ _ _ _ _ (turn e .loop .inv .0) (given e)
 
 -- its record is sound, and its question is the rewriting
 sound : (e : tie.Else1 Inv-loop μ-loop) → SoundRecord stored (record-of e)
@@ -107,19 +109,30 @@ fate x =
     (λ (a : ℕ).
     FateIs (limitsFor a) (turn (having x) .loop .work) (turn (having x) .loop .held)
     (questionOf stored (record-of (having x))) (x .admit .last .0) (x .admit .result))
-    (start (turn (having x)) .pre .5) (x .admit .ensures))
+    (start (turn (having x)) .pre .5) (x .admit .ensures .0))
 
 appended : (c : tie.After-known-told Inv-loop μ-loop)
     → Became (c .before .before .before .before .before) (Appended (c .before .fate .given .0 .0))
 appended c = let x = c .before .before .before .before .before in subst (Became x) (c .before .fate .given .1) (fate x)
+
+-- and the sets beside the array then
+abbrev After : tie.After-admit Inv-loop μ-loop → Fate → Type 0
+After x r = BesideAfter (x .admit .last .1 .0) (x .admit .last .0) (turn (having x) .loop .held) r
+
+appended-sets : (c : tie.After-known-told Inv-loop μ-loop)
+    → After (c .before .before .before .before .before) (Appended (c .before .fate .given .0 .0))
+appended-sets c =
+    let x = c .before .before .before .before .before in subst (After x) (c .before .fate .given .1) (x .admit .ensures .1)
 
 fresh-requires : tie.Need-fresh-requires Inv-loop μ-loop
 fresh-requires c κs = search needs
 
 loop-holds : tie.Need-loop-holds Inv-loop μ-loop
 loop-holds c =
-    let b = c .before .before .before .before .before in
-    onward-first (limitsOf (b .args .book .now)) (bookOf (b .args .book .now) .rules) (questionOf stored (b .args .member .now)) _ _ (b .pre .4)
+    let b = c .before .before .before .before .before in (
+      onward-first (limitsOf (b .args .book .now)) (bookOf (b .args .book .now) .rules) (questionOf stored (b .args .member .now)) _ _ (b .pre .4),
+      b .pre .8,
+    )
 
 next-rewriting-requires : tie.Need-next-rewriting-requires Inv-loop μ-loop
 next-rewriting-requires c κs =
@@ -137,21 +150,28 @@ next-rewriting-requires c κs =
 same-length : tie.Need-same-length Inv-loop μ-loop
 same-length c =
     let l = c .before .before .before .before in
-    l .loop .inv .working .held .size ∙ sym (start l .pre .4 .held .size)
+    l .loop .inv .0 .working .held .size ∙ sym (start l .pre .4 .held .size)
 
 returns : tie.Need-returns Inv-loop μ-loop
 returns c =
-    onward-done _ _ _ _ _ (c .before .before .before .before .loop .inv)
-    (given-none _ _ _ _ _ _ _ (c .before .before .next-rewriting .ensures .0) (not-true _ (c .if1 .taken)))
+    let l = c .before .before .before .before in (
+      onward-done _ _ _ _ _ (l .loop .inv .0)
+          (given-none _ _ _ _ _ _ _ (c .before .before .next-rewriting .ensures .0) (not-true _ (c .if1 .taken))),
+      l .loop .inv .1,
+    )
 
 add-from : tie.Need-add-from Inv-loop μ-loop
 add-from c = omega (arith, c .before .before .before .next-rewriting .ensures .1)
 
 admit-requires : tie.Need-admit-requires Inv-loop μ-loop
 admit-requires c κs =
-    let e = c .before .before .before in
-    let b = start (turn e) in
-    (turn e .loop .inv .working, sound e, omega (arith, b .pre .5, answers-few (b .args .book .now) (b .pre .0)))
+    let e = c .before .before .before .before in
+    let b = start (turn e) in (
+      turn e .loop .inv .0 .working,
+      sound e,
+      omega (arith, b .pre .5, answers-few (b .args .book .now) (b .pre .0)),
+      turn e .loop .inv .1,
+    )
 
 enum-told : tie.Need-enum-told Inv-loop μ-loop
 enum-told c = search needs
@@ -178,6 +198,11 @@ dropped t =
     let x = t .before .before .before .before in
     subst (Became x) (t .enum-told .given .1) (fate x)
 
+dropped-sets : (t : tie.After-enum-told Inv-loop μ-loop) → After (t .before .before .before .before) Dropped
+dropped-sets t =
+    let x = t .before .before .before .before in
+    subst (After x) (t .enum-told .given .1) (x .admit .ensures .1)
+
 onward : (t : tie.After-enum-told Inv-loop μ-loop)
     → let x = t .before .before .before .before in
     let e = having x in
@@ -187,11 +212,11 @@ onward : (t : tie.After-enum-told Inv-loop μ-loop)
     (e .before .before .next-rewriting .result .choice + 1)
 onward t =
     let x = t .before .before .before .before in
-    onward-dropped _ _ _ _ _ (turn (having x) .loop .inv) (given (having x)) (x .admit .last .0) (dropped t)
+    onward-dropped _ _ _ _ _ (turn (having x) .loop .inv .0) (given (having x)) (x .admit .last .0) (dropped t)
 
 after-drop-requires : tie.Need-after-drop-requires Inv-loop μ-loop
 after-drop-requires c κs =
-    let t = c .before .before in
+    let t = c .before .before .before in
     let e = having (t .before .before .before .before) in
     let b = start (turn e) in
     let M = b .pre .3 in (
@@ -206,26 +231,29 @@ after-drop-requires c κs =
           (λ (r : Rule).
           e .before .before .next-rewriting .result .choice < count (length (r .head)) (getD (b .args .member .now) 0 0))
           (own-rule e .1) (own-choice e),
+      dropped-sets t,
     )
 
 loop-less : tie.Need-loop-less Inv-loop μ-loop
 loop-less c =
     let d = c .before in
-    let e = having (d .before .before .before .before .before .before .before) in
-    fewer-passed _ _ _ _ _ (turn e .loop .inv) (given e) (d .after-drop .ensures .later)
+    let e = having (d .before .before .before .before .before .before .before .before) in
+    fewer-passed _ _ _ _ _ (turn e .loop .inv .0) (given e) (d .after-drop .ensures .later)
 
 loop-again : tie.Need-loop-again Inv-loop μ-loop
 loop-again c =
     let d = c .before in
-    let t = d .before .before .before in
+    let t = d .before .before .before .before in
     let x = t .before .before .before .before in
-    let e = having x in
-    onward-passed _ _ _ _ _ (turn e .loop .inv) (given e) (onward t)
-    (subst
-    (λ (r : Rule).
-    GoesOn r (member-of (turn e)) (heldFrom (x .admit .last .0) firstAt (turn e .loop .held .count))
-    (e .before .before .next-rewriting .result .choice) (d .after-drop .result .from))
-    (sym (own-rule e .1)) (d .after-drop .ensures))
+    let e = having x in (
+      onward-passed _ _ _ _ _ (turn e .loop .inv .0) (given e) (onward t)
+          (subst
+          (λ (r : Rule).
+          GoesOn r (member-of (turn e)) (heldFrom (x .admit .last .0) firstAt (turn e .loop .held .count))
+          (e .before .before .next-rewriting .result .choice) (d .after-drop .result .from))
+          (sym (own-rule e .1)) (d .after-drop .ensures)),
+      dropped-sets t,
+    )
 
 enum-known-fate : tie.Need-enum-known-fate Inv-loop μ-loop
 enum-known-fate c = search needs
@@ -245,20 +273,24 @@ same-length-2 c =
 
 returns-2 : tie.Need-returns-2 Inv-loop μ-loop
 returns-2 c =
-    let e = having (c .before .before .before .before .before .before .before .before .before) in
-    onward-stopped _ _ _ _ _ (turn e .loop .inv) (given e) _ _ (appended (c .before .before .before .before))
-    (covers-is e _ (c .before .covers-sound .ensures) ∙ c .if2 .taken)
+    let e = having (c .before .before .before .before .before .before .before .before .before) in (
+      onward-stopped _ _ _ _ _ (turn e .loop .inv .0) (given e) _ _ (appended (c .before .before .before .before))
+          (covers-is e _ (c .before .covers-sound .ensures) ∙ c .if2 .taken),
+      appended-sets (c .before .before .before .before),
+    )
 
 loop-less-2 : tie.Need-loop-less-2 Inv-loop μ-loop
 loop-less-2 c =
     let e = having (c .before .before .before .before .before .before .before .before .before) in
-    fewer _ _ _ _ _ (turn e .loop .inv) (given e)
+    fewer _ _ _ _ _ (turn e .loop .inv .0) (given e)
 
 loop-again-2 : tie.Need-loop-again-2 Inv-loop μ-loop
 loop-again-2 c =
-    let e = having (c .before .before .before .before .before .before .before .before .before) in
-    onward-appended _ _ _ _ _ (turn e .loop .inv) (given e) _ _ (appended (c .before .before .before .before))
-    (covers-is e _ (c .before .covers-sound .ensures) ∙ c .if2 .left)
+    let e = having (c .before .before .before .before .before .before .before .before .before) in (
+      onward-appended _ _ _ _ _ (turn e .loop .inv .0) (given e) _ _ (appended (c .before .before .before .before))
+          (covers-is e _ (c .before .covers-sound .ensures) ∙ c .if2 .left),
+      appended-sets (c .before .before .before .before),
+    )
 
 enum-known-fate-2 : tie.Need-enum-known-fate-2 Inv-loop μ-loop
 enum-known-fate-2 c = search needs
@@ -267,13 +299,15 @@ same-length-3 : tie.Need-same-length-3 Inv-loop μ-loop
 same-length-3 c =
     let x = c .before .before .before .before .before in
     let l = turn (having x) in
-    x .admit .kept .0 ∙ l .loop .inv .working .held .size ∙ sym (start l .pre .4 .held .size)
+    x .admit .kept .0 ∙ l .loop .inv .0 .working .held .size ∙ sym (start l .pre .4 .held .size)
 
 returns-3 : tie.Need-returns-3 Inv-loop μ-loop
 returns-3 c =
-    let x = c .before .before .before .before .before in
-    onward-refused _ _ _ _ _ (turn (having x) .loop .inv) (given (having x)) _
-    (subst (Became x) (c .before .fate2 .given .1) (fate x))
+    let x = c .before .before .before .before .before in (
+      onward-refused _ _ _ _ _ (turn (having x) .loop .inv .0) (given (having x)) _
+          (subst (Became x) (c .before .fate2 .given .1) (fate x)),
+      tt,
+    )
 
 pub explore-spec : {M : Type 1} → statement M
 explore-spec =

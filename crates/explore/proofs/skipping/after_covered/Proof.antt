@@ -21,11 +21,11 @@ use Rattle.explore.proofs.skipping.after_covered.Statement.{statement}
 use Rattle.explore.proofs.skipping.after_covered.Tie as tie
 
 abbrev Inv-loop : tie.InvT-loop
-Inv-loop book rule member work members choice n least from₀ p₀ from p =
+Inv-loop book rule member work sets members choice n least from₀ p₀ from p =
     (p ≤ n) × GoesOn (ruleOf book rule) (questionOf stored member) (heldFrom work firstAt members) choice from
 
 abbrev μ-loop : tie.MeasureT-loop
-μ-loop book rule member work members choice n least from₀ p₀ from p = p
+μ-loop book rule member work sets members choice n least from₀ p₀ from p = p
 
 -- where the function began, from a turn
 abbrev start : tie.At-loop Inv-loop μ-loop → tie.Start Inv-loop μ-loop
@@ -58,7 +58,7 @@ prefix-covered-requires : tie.Need-prefix-covered-requires Inv-loop μ-loop
 prefix-covered-requires c κs =
     let l = c .before in
     let b = start l in
-    (b .pre .0, b .pre .1, b .pre .2, b .pre .3, omega (arith, l .loop .inv .0, c .loop-test .taken), b .pre .4)
+    (b .pre .0, b .pre .1, b .pre .2, b .pre .3, omega (arith, l .loop .inv .0, c .loop-test .taken), b .pre .4, b .pre .5)
 
 returns : tie.Need-returns Inv-loop μ-loop
 returns c = c .before .before .before .loop .inv .1

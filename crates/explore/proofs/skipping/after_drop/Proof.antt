@@ -52,8 +52,8 @@ fresh-requires c κs = search needs
 sub-now : tie.Need-sub-now
 sub-now c = search needs
 
-add-t12 : tie.Need-add-t12
-add-t12 c = omega (arith, small (c .before .before .before .before .before .before .before .before .before))
+add-t13 : tie.Need-add-t13
+add-t13 c = omega (arith, small (c .before .before .before .before .before .before .before .before .before))
 
 returns : tie.Need-returns
 returns c = goes-next _ _ _ _
@@ -77,7 +77,7 @@ after-covered-requires : tie.Need-after-covered-requires
 after-covered-requires c κs =
     let b = c .before .before .before .before .before .before .before .before .before .before in
     let e = c .rule-at .ensures in
-    (b .pre .3, in-book b _ e, b .pre .4, b .pre .5, own-choice b _ e)
+    (b .pre .3, in-book b _ e, b .pre .4, b .pre .5, own-choice b _ e, b .pre .8)
 
 add-asked : tie.Need-add-asked
 add-asked c = omega (arith, small (c .before .before .before .before .before .before .before .before .before .before .before))
@@ -102,7 +102,7 @@ after-drop-spec =
     (tie.spec
     fresh-requires
     sub-now
-    add-t12
+    add-t13
     returns
     mul-rule-at
     shared-slice-read-rule-at

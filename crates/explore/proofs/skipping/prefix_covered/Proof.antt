@@ -16,7 +16,7 @@ is-covered-requires : tie.Need-is-covered-requires
 is-covered-requires c κs =
     let e = c .before .before in
     let b = e .before .before .before .before .before .before in
-    (b .pre .2, b .pre .3, settled-sound (e .before .before .prefix-rewriting .ensures) (not-false _ (e .if1 .left)))
+    (b .pre .2, b .pre .3, settled-sound (e .before .before .prefix-rewriting .ensures) (not-false _ (e .if1 .left)), b .pre .6)
 
 returns-2 : tie.Need-returns-2
 returns-2 c =

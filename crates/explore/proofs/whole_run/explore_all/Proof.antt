@@ -2,52 +2,55 @@
 -- explorations left.
 use borrow.Author.Needs.{needs}
 use native.Mathlib.Omega.{arith}
-use mathlib.Core.Path.{_≡_, sym, _∙_}
+use mathlib.Core.Path.{_≡_, sym, _∙_, subst}
 use mathlib.Core.List.{List}
 use Prim.Native.Nat.{ℕ, _-_, _<_}
 use lib.ListN.{length}
 use Rattle.reading.specs.Book.{bookOf}
 use Rattle.reading.proofs.SoundBook.{sound-long}
 use Rattle.reading.proofs.Fits.{allowed-few}
+use Rattle.admit.specs.Sets.{Beside}
+use Rattle.explore.specs.Exploring.{SetsLeft}
 use Rattle.explore.proofs.Among.{rules-read}
-use Rattle.explore.proofs.Running.{Running, first-sound, first-fits, first-running, running-next}
+use Rattle.explore.proofs.Running.{Running, first-sound, first-fits, first-running, first-beside, running-next}
 use Rattle.explore.proofs.Running.{outcome-complete, outcome-ten, outcome-refused, taken-working, member-of}
 use Rattle.explore.proofs.Running.{allowed-read}
 use Rattle.explore.proofs.whole_run.explore_all.Statement.{statement}
 use Rattle.explore.proofs.whole_run.explore_all.Tie as tie
 
 abbrev Inv-loop : tie.InvT-loop
-Inv-loop book work₀ rules allowed answers starts heads len filled₀ taken₀ work filled taken = Running book work filled taken
+Inv-loop book work₀ rules allowed answers starts heads len sets₀ filled₀ taken₀ work sets filled taken =
+    Running book work filled taken × Beside sets work (filled .count)
 
 abbrev μ-loop : tie.MeasureT-loop
-μ-loop book work₀ rules allowed answers starts heads len filled₀ taken₀ work filled taken = allowed - taken
+μ-loop book work₀ rules allowed answers starts heads len sets₀ filled₀ taken₀ work sets filled taken = allowed - taken
 
 -- points of the walk: where a turn begins, where the function began, and the turn whose member is explored
 abbrev turn : tie.Else2 Inv-loop μ-loop → tie.At-loop Inv-loop μ-loop
 turn e = e .before .before .before
 
 abbrev start : tie.At-loop Inv-loop μ-loop → tie.Start Inv-loop μ-loop
-start l = l .before .before .before .before .before .before .before .before .before .before .before .before .before .before
+start l = l .before .before .before .before .before .before .before .before .before .before .before .before .before .before .before .before
 
 -- after the header was read, and after the answer records were counted
 abbrev reading : tie.At-loop Inv-loop μ-loop → tie.After-read Inv-loop μ-loop
-reading l = l .before .before .before .before .before .before .before .before .before .before .before
+reading l = l .before .before .before .before .before .before .before .before .before .before .before .before .before
 
 abbrev counted : tie.At-loop Inv-loop μ-loop → tie.After-answer-records Inv-loop μ-loop
-counted l = l .before .before .before .before .before .before .before .before .before .before
+counted l = l .before .before .before .before .before .before .before .before .before .before .before .before
 
 -- after the rules' starts were found, and the sets of their head relations made
 abbrev started : tie.At-loop Inv-loop μ-loop → tie.After-starts Inv-loop μ-loop
-started l = l .before .before .before .before .before .before .before .before .before
+started l = l .before .before .before .before .before .before .before .before .before .before .before
 
 abbrev set-up : tie.At-loop Inv-loop μ-loop → tie.After-head-sets Inv-loop μ-loop
-set-up l = l .before .before .before .before .before .before .before
+set-up l = l .before .before .before .before .before .before .before .before .before
 
 abbrev book-of : tie.At-loop Inv-loop μ-loop → List ℕ
 book-of l = start l .args .book .now
 
 abbrev taking-up : tie.After-explore Inv-loop μ-loop → tie.Else2 Inv-loop μ-loop
-taking-up x = x .before .before .before .before .before .before .before .before
+taking-up x = x .before .before .before .before .before .before .before .before .before
 
 read-requires : tie.Need-read-requires Inv-loop μ-loop
 read-requires c κs = sound-long _ (c .before .before .pre .0)
@@ -84,16 +87,28 @@ append-requires c κs =
     let W = b .args .work .now in
     (first-sound B (b .pre .0) W (b .pre .1) _ is, first-fits B (b .pre .0) W (b .pre .1) _ is)
 
+sets-of-one-requires : tie.Need-sets-of-one-requires Inv-loop μ-loop
+sets-of-one-requires c κs =
+    let f = c .before .before .before .before .before .before in
+    let b = f .before .before .before .before .before .before .before .before in
+    first-sound (b .args .book .now) (b .pre .0) (b .args .work .now) (b .pre .1) _ (f .first-member .ensures)
+
 loop-holds : tie.Need-loop-holds Inv-loop μ-loop
 loop-holds c =
-    let b = c .before .before .before .before .before .before .before .before .before .before .before .before .before in
-    let put = c .before .before .append .ensures in
-    first-running (b .args .book .now) (b .pre .0) (b .args .work .now) (b .pre .1) _
-    (c .before .before .before .before .before .first-member .ensures) _ _ (put .0) (put .1)
+    let f = c .before .before .before .before .before .before .before in
+    let b = f .before .before .before .before .before .before .before .before in
+    let B = b .args .book .now in
+    let W = b .args .work .now in
+    let is = f .first-member .ensures in
+    let put = c .before .before .before .before .append .ensures in
+    let one = c .sets-of-one .ensures in (
+      first-running B (b .pre .0) W (b .pre .1) _ is _ _ (put .0) (put .1),
+      first-beside B (b .pre .0) W (b .pre .1) _ is _ _ (put .0) (put .1) _ (one .0) (one .1),
+    )
 
 -- the array keeps its size
 sized : (l : tie.At-loop Inv-loop μ-loop) → length (l .loop .work) ≡ length (start l .args .work .now)
-sized l = l .loop .inv .working .held .size ∙ sym (start l .pre .1)
+sized l = l .loop .inv .0 .working .held .size ∙ sym (start l .pre .1)
 
 same-length : tie.Need-same-length Inv-loop μ-loop
 same-length c = sized (c .before .before .before)
@@ -106,22 +121,22 @@ allowed-is l = allowed-read (book-of l) _ (reading l .read .ensures)
 returns : tie.Need-returns Inv-loop μ-loop
 returns c =
     let l = c .before .before .before in
-    outcome-ten (book-of l) (l .loop .inv) (c .before .if1 .taken) (c .if2 .taken ∙ allowed-is l)
+    outcome-ten (book-of l) (l .loop .inv .0) (c .before .if1 .taken) (c .if2 .taken ∙ allowed-is l)
 
 -- there are explorations left
 more : (e : tie.Else2 Inv-loop μ-loop) → turn e .loop .taken < bookOf (book-of (turn e)) .allowed
-more e = omega (arith, e .if2 .left, turn e .loop .inv .few, allowed-is (turn e))
+more e = omega (arith, e .if2 .left, turn e .loop .inv .0 .few, allowed-is (turn e))
 
 oldest-requires : tie.Need-oldest-requires Inv-loop μ-loop
-oldest-requires c κs = (turn (c .before) .loop .inv .working, c .before .before .if1 .taken)
+oldest-requires c κs = (turn (c .before) .loop .inv .0 .working, c .before .before .if1 .taken)
 
 add-taken : tie.Need-add-taken Inv-loop μ-loop
 add-taken c =
     let l = turn (c .before .before) in
-    omega (arith, l .loop .inv .few, allowed-few (book-of l) (start l .pre .0))
+    omega (arith, l .loop .inv .0 .few, allowed-few (book-of l) (start l .pre .0))
 
 add-filled : tie.Need-add-filled Inv-loop μ-loop
-add-filled c = let e = c .before .before .before in omega (arith, e .before .if1 .taken, turn e .loop .inv .working .few)
+add-filled c = let e = c .before .before .before in omega (arith, e .before .if1 .taken, turn e .loop .inv .0 .working .few)
 
 slice-aggregate-explore : tie.Need-slice-aggregate-explore Inv-loop μ-loop
 slice-aggregate-explore c = search needs
@@ -131,18 +146,19 @@ slice-aggregate-explore-2 c = search needs
 
 explore-requires : tie.Need-explore-requires Inv-loop μ-loop
 explore-requires c κs =
-    let e = c .before .before .before .before .before .before .before in
+    let e = c .before .before .before .before .before .before .before .before in
     let l = turn e in
     let s = start l .pre .0 in
-    let old = c .before .before .before .before .before .oldest .ensures in (
+    let old = c .before .before .before .before .before .before .oldest .ensures in (
       s,
       omega (arith, rules-read (book-of l) s _ (reading l .read .ensures)),
       started l .starts .ensures,
-      member-of (book-of l) (l .loop .inv) (e .before .if1 .taken) (more e) s (old .0) (old .1) _ (old .2),
-      taken-working (book-of l) (l .loop .inv) (e .before .if1 .taken) (more e),
+      member-of (book-of l) (l .loop .inv .0) (e .before .if1 .taken) (more e) s (old .0) (old .1) _ (old .2),
+      taken-working (book-of l) (l .loop .inv .0) (e .before .if1 .taken) (more e),
       counted l .answer-records .ensures,
       start l .pre .2,
       set-up l .head-sets .ensures,
+      l .loop .inv .1,
     )
 
 enum-known-explored : tie.Need-enum-known-explored Inv-loop μ-loop
@@ -156,9 +172,12 @@ loop-again c =
     let x = c .before .before .before .before .before in
     let e = taking-up x in
     let l = turn e in
-    let old = x .before .before .before .before .before .before .oldest .ensures in
-    running-next (book-of l) (l .loop .inv) (e .before .if1 .taken) (more e) (start l .pre .0) (old .0) (old .1) _ (old .2)
-    (x .explore .last .1 .1 .1 .1 .1 .0) (x .explore .result) (x .explore .ensures) _ (c .before .explored .given .1)
+    let old = x .before .before .before .before .before .before .before .oldest .ensures in
+    let is = c .before .explored .given .1 in (
+      running-next (book-of l) (l .loop .inv .0) (e .before .if1 .taken) (more e) (start l .pre .0) (old .0) (old .1) _ (old .2)
+          (x .explore .last .1 .1 .1 .1 .1 .0) (x .explore .result) (x .explore .ensures .0) _ is,
+      subst (SetsLeft (x .explore .last .1 .1 .1 .1 .1 .1 .0) (x .explore .last .1 .1 .1 .1 .1 .0)) is (x .explore .ensures .1),
+    )
 
 enum-known-explored-2 : tie.Need-enum-known-explored-2 Inv-loop μ-loop
 enum-known-explored-2 c = search needs
@@ -172,9 +191,9 @@ returns-2 c =
     let x = c .before .before .before .before .before in
     let e = taking-up x in
     let l = turn e in
-    let old = x .before .before .before .before .before .before .oldest .ensures in
-    outcome-refused (book-of l) (l .loop .inv) (e .before .if1 .taken) (more e) (start l .pre .0) (old .0) (old .1) _
-    (old .2) (x .explore .last .1 .1 .1 .1 .1 .0) (x .explore .result) (x .explore .ensures) _ (c .before .explored2 .given .1)
+    let old = x .before .before .before .before .before .before .before .oldest .ensures in
+    outcome-refused (book-of l) (l .loop .inv .0) (e .before .if1 .taken) (more e) (start l .pre .0) (old .0) (old .1) _
+    (old .2) (x .explore .last .1 .1 .1 .1 .1 .0) (x .explore .result) (x .explore .ensures .0) _ (c .before .explored2 .given .1)
 
 same-length-3 : tie.Need-same-length-3 Inv-loop μ-loop
 same-length-3 c = sized (c .before .before)
@@ -182,7 +201,7 @@ same-length-3 c = sized (c .before .before)
 returns-3 : tie.Need-returns-3 Inv-loop μ-loop
 returns-3 c =
     let l = c .before .before in
-    outcome-complete (book-of l) (l .loop .inv) (allowed-few (book-of l) (start l .pre .0)) (c .if1 .left)
+    outcome-complete (book-of l) (l .loop .inv .0) (allowed-few (book-of l) (start l .pre .0)) (c .if1 .left)
 
 pub explore-all-spec : {M : Type 1} → statement M
 explore-all-spec =
@@ -198,6 +217,7 @@ explore-all-spec =
     first-member-requires
     slice-aggregate-append
     append-requires
+    sets-of-one-requires
     loop-holds
     same-length
     returns
