@@ -35,7 +35,10 @@ fn first_member(book: &[u8]) -> [u8; RECORD]
     requires { ⌜ SoundBook (now book) × (formOf (now book) ≡ new) ⌝ }
     ensures { λ r. ⌜ r ≡ heldIn stored recordRoom (form (joined (bookOf (now (book .entry)) .question))) ⌝ }
 {
-    forming::in_form(book::question(book))
+    let question = book::question(book);
+    let mut first = forming::no_atoms();
+    forming::in_form(&question, &mut first);
+    first
 }
 
 // The sets of relations beside a working array with that member alone.

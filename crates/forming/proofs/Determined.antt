@@ -7,7 +7,7 @@ use Rattle.forming.proofs.formed.put_atom.Reads as put-atom-reads
 use Rattle.forming.proofs.formed.put_on.Reads as put-on-reads
 
 pub in-form-determined : (κs : _) (a : _) (r s : _) (x y : _) → in-form-reads.Learnt κs a r x
-    → in-form-reads.Learnt κs a s y → r ≡ s
+    → in-form-reads.Learnt κs a s y → x .1 .0 .now ≡ y .1 .0 .now
 in-form-determined κs a r s x y p q = p ∙ sym q
 
 pub no-atoms-determined : (κs : _) (a : _) (r s : _) (x y : _) → no-atoms-reads.Learnt κs a r x

@@ -1,18 +1,18 @@
 -- Dropping equal elements but for the first, from left to right: an element is kept unless it is among those kept
 -- already. So the code's way gives `dedup`, and the variables in order of first appearance. Assumes nothing.
-use mathlib.Core.Path.{_≡_, refl, sym, _∙_, ap}
+use mathlib.Core.Path.{_≡_, refl, sym, _∙_, ap, subst}
 use mathlib.Core.Bool.{Bool, true, false, cond, not, _&&_, _||_}
 use mathlib.Core.Logic.{_⊎_, inl, inr}
 use mathlib.Core.List.{List, [], _∷_, _++_, append-assoc, append-nil}
 use Prim.Native.Nat.{ℕ}
 use lib.Dec.{T, eqb, eqb→eq}
-use Rattle.covering.specs.Lists.{keep}
-use Rattle.covering.specs.Term.{Term, var, con, Question, eqAtom}
+use Rattle.covering.specs.Lists.{_∈_, keep}
+use Rattle.covering.specs.Term.{Term, var, con, Atom, Question, eqAtom}
 use Rattle.covering.specs.Form.{dedup, firsts}
 use Rattle.forming.specs.Building.{has, added, addedAll, seen, allSeen}
-use Rattle.covering.proofs.Lists.{any-append, keep-same, keep-all}
-use Rattle.covering.proofs.Tests.{either, true→T}
-use Rattle.covering.proofs.Terms.{eqAtom→eq}
+use Rattle.covering.proofs.Lists.{any-in, any-append, keep-same, keep-all}
+use Rattle.covering.proofs.Tests.{either, true→T, false→no, not-of}
+use Rattle.covering.proofs.Terms.{eqAtom→eq, eqAtom-refl}
 
 keep-keep : {A : Type 0} (p q : A → Bool) (l : List A) → keep p (keep q l) ≡ keep (λ x. q x && p x) l
 keep-keep p q [] = refl
@@ -113,6 +113,18 @@ dedup-leftward A = same A ∙ sym (from-none eqAtom eqAtom→eq A)
     same : (B : Question) → dedup B ≡ sifted eqAtom B
     same [] = refl
     same (b ∷ B) = ap (λ (l : Question). b ∷ keep (λ c. not (eqAtom b c)) l) (same B)
+
+-- an atom that is none of those after it drops none of them
+pub dedup-new : (a : Atom) (A : Question) → has eqAtom A a ≡ false → dedup A ≡ A → dedup (a ∷ A) ≡ a ∷ A
+dedup-new a A new e =
+    ap (λ (l : Question). a ∷ keep (λ b. not (eqAtom a b)) l) e ∙ ap (λ (l : Question). a ∷ l) (keep-all _ A other)
+  where
+    other : (b : Atom) → b ∈ A → T (not (eqAtom a b))
+    other b m =
+        not-of (eqAtom a b)
+        (λ t.
+        let itself = subst (λ (c : Atom). T (eqAtom c a)) (eqAtom→eq a b t) (eqAtom-refl a) in
+        false→no _ new (any-in (λ k. eqAtom k a) A m itself))
 
 -- the variables of terms, as they stand
 abbrev variables : List Term → List ℕ

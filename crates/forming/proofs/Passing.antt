@@ -10,10 +10,11 @@ use Rattle.covering.specs.Lists.{_∈_, any}
 use Rattle.covering.specs.Term.{Atom, Question, terms, eqAtom}
 use Rattle.covering.specs.Record.{Layout, size, atomAt, atomsAt}
 use Rattle.covering.specs.Buffer.{AtomIn, AtomsIn}
-use Rattle.forming.specs.Building.{added, addedAll, allSeen}
+use Rattle.covering.specs.Form.{dedup}
+use Rattle.forming.specs.Building.{has, added, addedAll, allSeen}
 use Rattle.covering.proofs.Within.{in-first, in-rest}
 use Rattle.covering.proofs.Places.{atoms-none, atoms-more}
-use Rattle.forming.proofs.Leftward.{seen-append}
+use Rattle.forming.proofs.Leftward.{dedup-new, seen-append}
 
 pub in-next : (L : Layout) (B : List ℕ) (i n : ℕ) → AtomsIn L B i n → 0 < n
     → AtomIn L B i × AtomsIn L B (i + size L) (n - 1)
@@ -56,6 +57,17 @@ module _ (L : Layout) (B : List ℕ) (i n : ℕ) where
       ≡ addedAll eqAtom (added eqAtom K (atomAt L B i)) (atomsAt L B (i + size L) (n - 1))
   unfolding addedAll
   added-next K h = rw (atoms-more L B i n h)
+
+  -- none of them dropped
+  pub differ-none : n ≡ 0 → dedup (atomsAt L B i n) ≡ atomsAt L B i n
+  differ-none e = rw (atoms-none L B i n e)
+
+  pub differ-next : 0 < n → has eqAtom (atomsAt L B (i + size L) (n - 1)) (atomAt L B i) ≡ false
+      → dedup (atomsAt L B (i + size L) (n - 1)) ≡ atomsAt L B (i + size L) (n - 1)
+      → dedup (atomsAt L B i n) ≡ atomsAt L B i n
+  differ-next h new e =
+      let more = atoms-more L B i n h in
+      ap dedup more ∙ dedup-new (atomAt L B i) _ new e ∙ sym more
 
   -- the last part of a question
   pub split-done : (A P : Question) → A ≡ P ++ atomsAt L B i n → n ≡ 0 → P ≡ A

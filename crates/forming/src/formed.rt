@@ -2,12 +2,13 @@
 // first appearance. A record is built in place, at the front of 85 bytes, the rest 255.
 use covering::RECORD;
 ghost use mathlib.Core.Path.{_≡_};
+ghost use mathlib.Core.Bool.{true};
 ghost use mathlib.Core.List.{List, [], _∷_, _++_};
 ghost use Prim.Native.Nat.{ℕ, _+_, _≤_, _<_};
 ghost use lib.ListN.{length, getD};
 ghost use Rattle.covering.specs.Term.{on-term, on-atom, eqAtom, terms};
 ghost use Rattle.covering.specs.Form.{dedup, firsts, renumber, form};
-ghost use Rattle.covering.specs.Record.{stored, termOf, byteOf, atomAt, questionOf, atomBytes, AtomFits, SoundRecord};
+ghost use Rattle.covering.specs.Record.{stored, termOf, byteOf, atomAt, atomsAt, questionOf, atomBytes, AtomFits, SoundRecord};
 ghost use Rattle.covering.specs.Buffer.{heldIn, AtomIn, AtomsIn, RoomLeft, recordRoom};
 ghost use Rattle.forming.specs.Building.{has, added, seen, allSeen, newNumber, subOf, NumberTable};
 
@@ -35,19 +36,19 @@ fn same_atom(first: &[u8], second: &[u8], i: usize, k: usize) -> bool
     true
 }
 
-// Whether the atom of from at `at` is among the atoms of kept.
-fn has_atom(kept: &[u8], from: &[u8], at: usize) -> bool
-    requires { ⌜ AtomsIn stored (now kept) 1 (getD (now kept) 0 0) × AtomIn stored (now from) at ⌝ }
+// Whether the atom of from at `at` is among the n atoms of kept that start at i.
+fn has_atom(kept: &[u8], i: usize, n: usize, from: &[u8], at: usize) -> bool
+    requires { ⌜ AtomsIn stored (now kept) i n × AtomIn stored (now from) at ⌝ }
     ensures { λ r. ⌜ r
-        ≡ has eqAtom (questionOf stored (now (kept .entry))) (atomAt stored (now (from .entry)) at) ⌝ }
+        ≡ has eqAtom (atomsAt stored (now (kept .entry)) i n) (atomAt stored (now (from .entry)) at) ⌝ }
 {
-    let mut i = 1;
-    let mut left = kept[0] as usize;
+    let mut next = i;
+    let mut left = n;
     while 0 < left {
-        if same_atom(kept, from, i, at) {
+        if same_atom(kept, from, next, at) {
             return true;
         }
-        i += 7;
+        next += 7;
         left -= 1;
     }
     false
@@ -81,7 +82,8 @@ fn put_new(kept: &mut [u8], from: &[u8], at: usize)
         recordRoom
         (added eqAtom (questionOf stored (now (kept .entry))) (atomAt stored (now (from .entry)) at)) ⌝ }
 {
-    if has_atom(kept, from, at) {
+    let n = kept[0] as usize;
+    if has_atom(kept, 1, n, from, at) {
         return;
     }
     put_atom(kept, from, at);
@@ -101,6 +103,24 @@ fn drop_equal(member: &[u8]) -> [u8; RECORD]
         left -= 1;
     }
     kept
+}
+
+// Whether no two of the record's atoms are equal: then none is dropped, and nothing needs copying.
+fn all_differ(member: &[u8]) -> bool
+    requires { ⌜ SoundRecord stored (now member) ⌝ }
+    ensures { λ r. ⌜ (r ≡ true
+        → dedup (questionOf stored (now (member .entry))) ≡ questionOf stored (now (member .entry))) ⌝ }
+{
+    let mut at = 1;
+    let mut left = member[0] as usize;
+    while 0 < left {
+        left -= 1;
+        if has_atom(member, at + 7, left, member, at) {
+            return false;
+        }
+        at += 7;
+    }
+    true
 }
 
 // Gives the term t the next number, if it is a variable that has none. The table has the new numbers given so far, 255
@@ -207,28 +227,32 @@ pub fn put_on(kept: &mut [u8], table: &[u8], from: &[u8], at: usize)
     put_atom(kept, &atom, 0);
 }
 
-// The record with its variables numbered by first appearance.
-fn renumbered(member: &[u8]) -> [u8; RECORD]
+// Writes the record with its variables numbered by first appearance to the room lent.
+fn put_renumbered(out: &mut [u8; RECORD], member: &[u8])
     requires { ⌜ SoundRecord stored (now member) ⌝ }
-    ensures { λ r. ⌜ r ≡ heldIn stored recordRoom (renumber (questionOf stored (now (member .entry)))) ⌝ }
+    ensures { λ _. ⌜ now (out .exit)
+        ≡ heldIn stored recordRoom (renumber (questionOf stored (now (member .entry)))) ⌝ }
 {
     let table = numbers_of(member);
-    let mut done = no_atoms();
+    *out = no_atoms();
     let mut at = 1;
     let mut left = member[0] as usize;
     while 0 < left {
-        put_on(&mut done, &table, member, at);
+        put_on(out, &table, member, at);
         at += 7;
         left -= 1;
     }
-    done
 }
 
-// The form of the record: equal atoms dropped but for the first, then variables numbered.
-pub fn in_form(member: [u8; RECORD]) -> [u8; RECORD]
-    requires { ⌜ SoundRecord stored member ⌝ }
-    ensures { λ r. ⌜ r ≡ heldIn stored recordRoom (form (questionOf stored member)) ⌝ }
+// Writes the form of the record to the room lent: equal atoms dropped but for the first, then variables numbered.
+pub fn in_form(member: &[u8; RECORD], out: &mut [u8; RECORD])
+    requires { ⌜ SoundRecord stored (now member) ⌝ }
+    ensures { λ _. ⌜ now (out .exit) ≡ heldIn stored recordRoom (form (questionOf stored (now (member .entry)))) ⌝ }
 {
-    let kept = drop_equal(&member);
-    renumbered(&kept)
+    if all_differ(member) {
+        put_renumbered(out, member);
+        return;
+    }
+    let kept = drop_equal(member);
+    put_renumbered(out, &kept);
 }

@@ -6,7 +6,7 @@ use crate::Found;
 use crate::classes::copied;
 use crate::leaving::put_left;
 use crate::powers::choice_counts;
-use crate::writing::rewriting;
+use crate::writing::put_rewriting;
 use book::Parts;
 use covering::RECORD;
 use forming::no_atoms;
@@ -170,7 +170,7 @@ fn whole_choice(
     if !are_valid(book, rule, unknowns, &left, table) {
         return 0;
     }
-    *out = rewriting(&left, book, rule, table);
+    put_rewriting(&left, book, rule, table, out);
     number + 1
 }
 

@@ -74,10 +74,16 @@ pub fn replaced(left: &[u8; RECORD], book: &[u8], rule: Parts, table: &[u8; 96])
     whole
 }
 
-// The rewriting of the left atoms and the rule's body by the classes.
-pub fn rewriting(left: &[u8; RECORD], book: &[u8], rule: Parts, table: &[u8; 96]) -> [u8; RECORD]
+// Writes the rewriting of the left atoms and the rule's body by the classes to the room lent.
+pub fn put_rewriting(
+    left: &[u8; RECORD],
+    book: &[u8],
+    rule: Parts,
+    table: &[u8; 96],
+    out: &mut [u8; RECORD],
+)
     requires { ⌜ LeftIn (now left) × (getD (now left) 0 0 ≤ 8) × RuleIn (now book) rule × ClassesFit (now table) ⌝ }
-    ensures { λ r. ⌜ r
+    ensures { λ _. ⌜ now (out .exit)
         ≡ heldIn stored recordRoom
         (form
         (rewritingOf
@@ -85,5 +91,6 @@ pub fn rewriting(left: &[u8; RECORD], book: &[u8], rule: Parts, table: &[u8; 96]
         (questionOf stored (now (left .entry)))
         (move 48 (ruleOf (now (book .entry)) rule)))) ⌝ }
 {
-    in_form(replaced(left, book, rule, table))
+    let whole = replaced(left, book, rule, table);
+    in_form(&whole, out);
 }

@@ -1,9 +1,9 @@
--- `forming::formed::has_atom` meets its contract. The loop's invariant: the atom is among those kept exactly where it
--- is among those from here on, and these are sound. The measure is their number.
+-- `forming::formed::has_atom` meets its contract. The loop's invariant: the atom is among them all exactly where it is
+-- among those from here on, and these are sound. The measure is their number.
 use native.Mathlib.Omega.{arith}
 use mathlib.Core.Path.{_≡_, refl, sym, _∙_}
 use Rattle.covering.specs.Term.{eqAtom}
-use Rattle.covering.specs.Record.{stored, atomAt, atomsAt, questionOf}
+use Rattle.covering.specs.Record.{stored, atomAt, atomsAt}
 use Rattle.covering.specs.Buffer.{AtomsIn}
 use Rattle.forming.specs.Building.{has}
 use Rattle.forming.proofs.Passing.{in-next, some-none, some-hit, some-miss}
@@ -11,28 +11,21 @@ use Rattle.forming.proofs.formed.has_atom.Statement.{statement}
 use Rattle.forming.proofs.formed.has_atom.Tie as tie
 
 abbrev Inv-loop : tie.InvT-loop
-Inv-loop kept from at i₀ left₀ i left =
-    AtomsIn stored kept i left
-    × (has eqAtom (questionOf stored kept) (atomAt stored from at)
-    ≡ has eqAtom (atomsAt stored kept i left) (atomAt stored from at))
+Inv-loop kept i n from at next₀ left₀ next left =
+    AtomsIn stored kept next left
+    × (has eqAtom (atomsAt stored kept i n) (atomAt stored from at)
+    ≡ has eqAtom (atomsAt stored kept next left) (atomAt stored from at))
 
 abbrev μ-loop : tie.MeasureT-loop
-μ-loop kept from at i₀ left₀ i left = left
-
-shared-slice-read-left : tie.Need-shared-slice-read-left Inv-loop μ-loop
-shared-slice-read-left c = omega arith
-
-cast-left : tie.Need-cast-left Inv-loop μ-loop
-cast-left c = omega (arith, c .shared-slice-known3 .given 0)
+μ-loop kept i n from at next₀ left₀ next left = left
 
 loop-holds : tie.Need-loop-holds Inv-loop μ-loop
-unfolding questionOf
-loop-holds c = (c .before .before .before .pre .0, refl)
+loop-holds c = (c .before .before .pre .0, refl)
 
 same-atom-requires : tie.Need-same-atom-requires Inv-loop μ-loop
 same-atom-requires c κs =
     let l = c .before in
-    (in-next stored _ _ _ (l .loop .inv .0) (c .loop-test .taken) .0, l .before .before .before .before .pre .1)
+    (in-next stored _ _ _ (l .loop .inv .0) (c .loop-test .taken) .0, l .before .before .before .pre .1)
 
 returns : tie.Need-returns Inv-loop μ-loop
 returns c =
@@ -41,8 +34,8 @@ returns c =
     (l .loop .inv .1
     ∙ some-hit stored _ _ _ _ (omega arith) (sym (c .before .same-atom .ensures) ∙ c .if1 .taken))
 
-add-i : tie.Need-add-i Inv-loop μ-loop
-add-i c = omega arith
+add-next : tie.Need-add-next Inv-loop μ-loop
+add-next c = omega arith
 
 sub-left : tie.Need-sub-left Inv-loop μ-loop
 sub-left c = omega arith
@@ -67,12 +60,10 @@ has-atom-spec =
     (tie.spec
     Inv-loop
     μ-loop
-    shared-slice-read-left
-    cast-left
     loop-holds
     same-atom-requires
     returns
-    add-i
+    add-next
     sub-left
     loop-less
     loop-again

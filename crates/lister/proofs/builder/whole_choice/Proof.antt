@@ -60,9 +60,9 @@ returns-2 c =
     ∙ sym (v .are-valid .ensures)
     ∙ not-true _ (c .if2 .taken)))
 
-rewriting-requires : tie.Need-rewriting-requires
-rewriting-requires c κs =
-    let p = c .before .before .before .before in
+put-rewriting-requires : tie.Need-put-rewriting-requires
+put-rewriting-requires c κs =
+    let p = c .before .before .before .before .before in
     let start = p .before .before .before .before .before in
     let a = start .args in
     let k = start .pre in
@@ -75,12 +75,13 @@ rewriting-requires c κs =
 
 add-result : tie.Need-add-result
 add-result c =
-    let start = c .before .before .before .before .before .before .before .before .before .before in
+    let start = c .before .before .before .before .before .before .before .before .before .before .before in
     omega (arith, start .pre .1 .2)
 
 returns-3 : tie.Need-returns-3
 returns-3 c =
-    let v = c .before .before .before in
+    let t = c .before .before .before in
+    let v = t .before in
     let p = v .before .before in
     let start = p .before .before .before in
     let a = start .before .before .args in
@@ -90,11 +91,11 @@ returns-3 c =
     let yes =
     ap (λ L. valid σ (questionOf stored L) r) (sym (p .put-left .ensures))
     ∙ sym (v .are-valid .ensures)
-    ∙ not-false _ (c .before .before .if2 .left) in
+    ∙ not-false _ (t .if2 .left) in
     told-same (sym (judged-yes (a .from) (a .number) (questionOf stored A) r σ (omega (arith, start .if1 .left)) yes))
     (record {
       answer = omega arith;
-      room = c .rewriting .ensures
+      room = c .put-rewriting .ensures
           ∙ ap (λ L. heldIn stored recordRoom (form (rewritingOf σ (questionOf stored L) r))) (p .put-left .ensures);
     })
 
@@ -107,6 +108,6 @@ whole-choice-spec =
     put-left-requires
     are-valid-requires
     returns-2
-    rewriting-requires
+    put-rewriting-requires
     add-result
     returns-3)

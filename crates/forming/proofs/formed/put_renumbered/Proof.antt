@@ -1,4 +1,4 @@
--- `forming::formed::renumbered` meets its contract. The loop's invariant: the atoms passed are written renumbered, and
+-- `forming::formed::put_renumbered` meets its contract. The loop's invariant: the atoms passed are written renumbered, and
 -- there is room for those from here on. The measure is the number of these.
 use borrow.Author.Needs.{needs}
 use native.Mathlib.Omega.{arith}
@@ -13,18 +13,18 @@ use Rattle.covering.proofs.Within.{sound-in}
 use Rattle.covering.proofs.RoundTrip.{stored-apart}
 use Rattle.forming.proofs.Passing.{in-next, split-done, split-in, split-next}
 use Rattle.forming.proofs.Growing.{Grows, grows-none, grows-length, grows-room, grows-on, table-numbers, table-fits}
-use Rattle.forming.proofs.formed.renumbered.Statement.{statement}
-use Rattle.forming.proofs.formed.renumbered.Tie as tie
+use Rattle.forming.proofs.formed.put_renumbered.Statement.{statement}
+use Rattle.forming.proofs.formed.put_renumbered.Tie as tie
 
 abbrev Inv-loop : tie.InvT-loop
-Inv-loop member table done₀ at₀ left₀ done at left =
+Inv-loop out₀ member table at₀ left₀ out at left =
     AtomsIn stored member at left
     × ((P : Question)
-    × Grows stored recordRoom done (on-question (numbering (questionOf stored member)) P) left
+    × Grows stored recordRoom out (on-question (numbering (questionOf stored member)) P) left
     × (questionOf stored member ≡ P ++ atomsAt stored member at left))
 
 abbrev μ-loop : tie.MeasureT-loop
-μ-loop member table done₀ at₀ left₀ done at left = left
+μ-loop out₀ member table at₀ left₀ out at left = left
 
 numbers-of-requires : tie.Need-numbers-of-requires Inv-loop μ-loop
 numbers-of-requires c κs = search needs
@@ -45,12 +45,7 @@ loop-holds c =
     (sound-in stored _ p, ([], grows-none stored recordRoom _ _ (c .before .no-atoms .ensures) (omega (arith, p .most)), refl))
 
 slice-aggregate-put-on : tie.Need-slice-aggregate-put-on Inv-loop μ-loop
-slice-aggregate-put-on c =
-    let s = c .before .before .loop .inv .1 in
-    sym (grows-length stored stored-apart recordRoom _ _ _ (s .1))
-
-slice-aggregate-put-on-2 : tie.Need-slice-aggregate-put-on-2 Inv-loop μ-loop
-slice-aggregate-put-on-2 c = search needs
+slice-aggregate-put-on c = search needs
 
 put-on-requires : tie.Need-put-on-requires Inv-loop μ-loop
 put-on-requires c κs =
@@ -78,8 +73,7 @@ loop-less c = omega arith
 
 loop-again : tie.Need-loop-again Inv-loop μ-loop
 loop-again c =
-    let p = c .before in
-    let t = p .before .before .before in
+    let t = c .before .before .before in
     let l = t .before in
     let s = l .loop .inv .1 in
     let some = t .loop-test .taken in
@@ -94,7 +88,7 @@ loop-again c =
       (
         s .0 ++ a ∷ [],
         grows-on stored stored-apart recordRoom (numbering (questionOf stored m)) _ _ _ (s .0) a _ (s .1) some same fits
-            (p .put-on .ensures),
+            (c .put-on .ensures),
         split-next stored _ _ _ _ (s .0) (s .2) some,
       ),
     )
@@ -106,8 +100,8 @@ returns c =
     s .1 .bytes
     ∙ ap (λ A. heldIn stored recordRoom (on-question (numbering q) A)) (split-done stored _ _ _ _ (s .0) (s .2) (omega arith))
 
-pub renumbered-spec : {M : Type 1} → statement M
-renumbered-spec =
+pub put-renumbered-spec : {M : Type 1} → statement M
+put-renumbered-spec =
     tie.close
     (tie.spec
     Inv-loop
@@ -118,7 +112,6 @@ renumbered-spec =
     cast-left
     loop-holds
     slice-aggregate-put-on
-    slice-aggregate-put-on-2
     put-on-requires
     add-at
     sub-left
