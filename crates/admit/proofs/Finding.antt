@@ -14,12 +14,9 @@ use Rattle.covering.specs.Term.{Atom, Question}
 use Rattle.covering.specs.Search.{Part, nowhere, findMap, firstMap, covers}
 use Rattle.cover.specs.Candidates.{foundOn}
 use Rattle.covering.specs.Record.{stored, atomAt, atomsAt, questionOf}
-use Rattle.records.specs.Relations.{relationsOf, isPart}
-use Rattle.records.proofs.Among.{not-part}
 use Rattle.cover.specs.HeldMap.{partOf, Searched}
 use Rattle.cover.proofs.Ahead.{first-any}
 use Rattle.cover.proofs.Maps.{part-nowhere, said-yes}
-use Rattle.cover.proofs.Meeting.{not-some}
 use Rattle.cover.proofs.SearchSteps.{searched-as}
 use Rattle.covering.proofs.Places.{question-at, atoms-none, atoms-more}
 use Rattle.exploration.specs.Run.{Test, covered}
@@ -74,31 +71,6 @@ map-one M C s =
 
     split : questionOf stored M ≡ atomAt stored M 1 ∷ atomsAt stored M 8 (getD M 0 0 - 1)
     split = question-at stored M refl ∙ atoms-more stored M 1 (getD M 0 0) s
-
--- the same where none is asked because the member's relations, the set m, are not among the rewriting's
-module _ (M C : List ℕ) {m s : ℕ} (has : 1 ≤ getD M 0 0) (own : m ≡ relationsOf (questionOf stored M))
-    (is : s ≡ relationsOf (questionOf stored C))
-  where
-    abbrev asked : Bool → ℕ
-    asked b = cond b 0 (getD C 0 0)
-
-    asked-of : (b : Bool) → isPart m s ≡ b
-        → (asked b ≤ getD C 0 0)
-        × (firstMap (questionOf stored M) (questionOf stored C)
-        ≡ firstOf (foundOn (questionOf stored M) (questionOf stored C) nowhere)
-        (atomsAt stored C (1 + asked b * 7) (getD C 0 0 - asked b)))
-    asked-of true e = (omega arith, map-one M C has)
-    asked-of false e = (
-      omega arith,
-      not-some _ (sym (covers-is _ _) ∙ not-part _ _ own is e) ∙ sym (maps-end _ C (getD C 0 0) _ (omega arith)),
-    )
-
-    pub map-asked : (k : ℕ) → k ≡ asked (isPart m s)
-        → (k ≤ getD C 0 0)
-        × (firstMap (questionOf stored M) (questionOf stored C)
-        ≡ firstOf (foundOn (questionOf stored M) (questionOf stored C) nowhere)
-        (atomsAt stored C (1 + k * 7) (getD C 0 0 - k)))
-    map-asked k e = rw e (asked-of (isPart m s) refl)
 
 -- a question without atoms covers all, and no variable goes anywhere
 pub map-none : (M C : List ℕ) → getD M 0 0 ≡ 0 → firstMap (questionOf stored M) (questionOf stored C) ≡ some nowhere

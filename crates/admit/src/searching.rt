@@ -1,12 +1,11 @@
 // The search for a member that covers a rewriting.
 ghost use mathlib.Core.Path.{_≡_};
-ghost use mathlib.Core.Bool.{cond};
 ghost use Prim.Native.Nat.{_≤_};
 ghost use lib.ListN.{replicate};
 ghost use Rattle.covering.specs.Search.{covers};
 ghost use Rattle.covering.specs.FirstMap.{mapOr};
 ghost use Rattle.covering.specs.Record.{stored, questionOf, SoundRecord};
-ghost use Rattle.records.specs.Relations.{relationsOf, isPart};
+ghost use Rattle.records.specs.Relations.{relationsOf};
 ghost use Rattle.exploration.specs.Run.{covered};
 ghost use Rattle.exploration.specs.Union.{firstAt};
 ghost use Rattle.exploration.specs.Held.{heldFrom};
@@ -17,17 +16,6 @@ use super::FIRST;
 use super::ROOM;
 use cover::VARIABLES;
 use covering::RECORD;
-
-// Which of the w candidates for a member's first atom to begin with: the first, or, where a relation of the member, a
-// set, does not stand in the rewriting, so that it covers nothing there, the one after the last.
-fn first_asked(set: u64, there: u64, w: usize) -> usize
-    ensures { λ r. ⌜ r ≡ cond (isPart set there) 0 w ⌝ }
-{
-    if records::is_part(set, there) {
-        return 0;
-    }
-    w
-}
 
 // The number of the first of the count members that covers the rewriting, count where none does. One candidate for the
 // member's first atom is asked at a time, so that the search ends at the first that serves, and the map that it found is
@@ -62,13 +50,18 @@ pub fn member_covering(
         if count <= i {
             break 'members count;
         }
+        let width = records::width(work[at]);
+        if !records::is_part(sets[i], there) {
+            at += width;
+            i += 1;
+            continue 'members;
+        }
         // A member without atoms covers whatever comes.
         if work[at] == 0 {
             break 'members i;
         }
-        let width = records::width(work[at]);
         let member = &work[at..];
-        let mut k = first_asked(sets[i], there, w);
+        let mut k = 0;
         'atoms: loop {
             if w <= k {
                 break 'atoms;

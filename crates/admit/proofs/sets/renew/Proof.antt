@@ -3,10 +3,10 @@
 use borrow.Author.Needs.{needs}
 use native.Mathlib.Omega.{arith}
 use native.Mathlib.Nat.{sub-zero}
-use mathlib.Core.Path.{_≡_, refl, sym, ap, _∙_, subst}
+use mathlib.Core.Path.{_≡_, sym, ap, _∙_, subst}
 use mathlib.Core.List.{List}
 use Prim.Native.Nat.{ℕ, _+_, _-_, _≤_}
-use lib.ListN.{length, length-set, drop}
+use lib.ListN.{length, length-set}
 use Rattle.covering.specs.Record.{stored, questionOf, SoundRecord}
 use Rattle.covering.proofs.Slices.{part-is}
 use Rattle.records.specs.Relations.{relationsOf}
