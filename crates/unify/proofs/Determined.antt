@@ -1,5 +1,6 @@
 -- Any two results that the contract of a public function allows are equal; of `join_atoms`, where it puts the atoms
--- together: where it cannot, its contract leaves the classes open. Assumes nothing.
+-- together: where it cannot, its contract leaves the classes open. Not so of `some_stuck`, whose no says nothing: that
+-- costs its caller time alone, and `next` is determined all the same. Assumes nothing.
 use mathlib.Core.Path.{_≡_, sym, _∙_}
 use Rattle.unify.specs.InBytes.{classesOf, merged}
 use Rattle.unify.proofs.joining.all_apart.Reads as all-apart-reads
