@@ -1,4 +1,5 @@
 -- Laws of the record's bytes, read one place at a time. Assumes nothing.
+use Prim.Native.Nat.{zero}
 use mathlib.Core.Path.{◌≡◌, sym, ◌∙◌, ap, ap₂, subst}
 use mathlib.Core.Bool.{Bool, true, false, cond, ◌&&◌, ◌||◌}
 use mathlib.Core.Logic.{◌⊎◌, inl, inr}
@@ -178,10 +179,12 @@ module _ (L : Layout) (B : List ℕ) (i : ℕ) where
 
   pub are_fails : (n : ℕ) → 0 < n → is_atom L B i ≡ false → are_atoms L B i n ≡ false
   unfolding are_atoms
+  are_fails zero h e = elim h [ ]
   are_fails (suc n) h e = rw e
 
   pub are_passes : (n : ℕ) → 0 < n → is_atom L B i ≡ true → are_atoms L B i n ≡ are_atoms L B (i + size L) (n - 1)
   unfolding are_atoms
+  are_passes zero h e = elim h [ ]
   are_passes (suc n) h e = rw (e, suc_sub_one n)
 
 -- the test of a record

@@ -71,6 +71,7 @@ abbrev there : Sub
 there n = con 0
 
 general_sent : Sends there general special
+general_sent a (Memᴰ.tail x4) = elim x4 [ ]
 general_sent a (Memᴰ.head e) = Memᴰ.head (ap (on_atom there) e)
 
 pub general_covers : Covers general special
@@ -84,6 +85,7 @@ abbrev all_to : ℕ → Sub
 all_to k n = var k
 
 sent : (k m : ℕ) → Sends (all_to k) (p (var m ∷ [])) (p (var k ∷ []))
+sent k m a (Memᴰ.tail x4) = elim x4 [ ]
 sent k m a (Memᴰ.head e) = Memᴰ.head (ap (on_atom (all_to k)) e)
 
 pub renamed_equivalent : Equivalent (p (var 0 ∷ [])) (p (var 1 ∷ []))

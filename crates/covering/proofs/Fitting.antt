@@ -123,6 +123,7 @@ dedup_fits L A f =
 
 -- a variable's number is below the number of variables, and that at most the number of places
 pub index_below : (ms : List ℕ) (n : ℕ) → n ∈ ms → index ms n < length ms
+index_below [] n h = elim h [ ]
 index_below (m ∷ ms) n h = go (decide (eqb m n)) (Memᴰ.cases_cons h) (λ u. index_below ms n u)
   where
     go : T (eqb m n) ⊎ T (not (eqb m n)) → (n ≡ m) ⊎ (n ∈ ms) → (n ∈ ms → index ms n < length ms)

@@ -21,10 +21,12 @@ use Rattle.covering.proofs.Preorder.{covers_part, equivalent_turn, equivalent_tr
 
 -- dropping equal atoms
 pub dedup_out : (A : Question) (a : Atom) → a ∈ dedup A → a ∈ A
+dedup_out [] a x' = elim x' [ ]
 dedup_out (b ∷ B) a (Memᴰ.head e) = Memᴰ.head e
 dedup_out (b ∷ B) a (Memᴰ.tail m) = Memᴰ.tail (dedup_out B a (keep_out _ (dedup B) m).0)
 
 pub dedup_in : (A : Question) (a : Atom) → a ∈ A → a ∈ dedup A
+dedup_in [] a x' = elim x' [ ]
 dedup_in (b ∷ B) a (Memᴰ.head e) = Memᴰ.head e
 dedup_in (b ∷ B) a (Memᴰ.tail m) = go (decide (eq_atom b a)) (dedup_in B a m)
   where
@@ -52,6 +54,7 @@ dedup_none (a ∷ A) d =
 
 -- numbering by first appearance
 pub firsts_in : (ts : List Term) (n : ℕ) → var n ∈ ts → n ∈ firsts ts
+firsts_in [] n x' = elim x' [ ]
 firsts_in (var k ∷ ts) n (Memᴰ.head e) = Memᴰ.head (var_inj e)
 firsts_in (var k ∷ ts) n (Memᴰ.tail m) = go (decide (eqb k n)) (firsts_in ts n m)
   where
@@ -62,6 +65,7 @@ firsts_in (con c ∷ ts) n (Memᴰ.head e) = absurd (var≢con e)
 firsts_in (con c ∷ ts) n (Memᴰ.tail m) = firsts_in ts n m
 
 pub firsts_out : (ts : List Term) (n : ℕ) → n ∈ firsts ts → var n ∈ ts
+firsts_out [] n m = elim m [ ]
 firsts_out (var k ∷ ts) n (Memᴰ.head e) = Memᴰ.head (ap var e)
 firsts_out (var k ∷ ts) n (Memᴰ.tail m) = Memᴰ.tail (firsts_out ts n (keep_out _ (firsts ts) m).0)
 firsts_out (con c ∷ ts) n m = Memᴰ.tail (firsts_out ts n m)
@@ -75,6 +79,7 @@ firsts_distinct (var n ∷ ts) = (
 firsts_distinct (con c ∷ ts) = firsts_distinct ts
 
 pub index_get : (ms : List ℕ) (n : ℕ) → n ∈ ms → get_or ms (index ms n) 0 ≡ n
+index_get [] n h = elim h [ ]
 index_get (m ∷ ms) n h = go (decide (eqb m n)) (Memᴰ.cases_cons h) (λ u. index_get ms n u)
   where
     go : T (eqb m n) ⊎ T (not (eqb m n)) → (n ≡ m) ⊎ (n ∈ ms) → (n ∈ ms → get_or ms (index ms n) 0 ≡ n)

@@ -164,7 +164,7 @@ module _ {A B : Type 0} where
       go (some c) q u below = (x, Memᴰ.head refl, q ∙ u)
 
   -- and one yields something where some element does
-  pub first_of_in : (f : A → Option B) (l : List A) {x : A} → x ∈ l → T (is_some (f x)) → T (is_some (first_of f l))
+  pub first_of_in : {x : A} (f : A → Option B) (l : List A) → x ∈ l → T (is_some (f x)) → T (is_some (first_of f l))
   first_of_in f l (Memᴰ.head {x = y} {xs = ys} e) t =
       or_else_left (f y) (first_of f ys) (subst (λ (z : A). T (is_some (f z))) e t)
   first_of_in f l (Memᴰ.tail {x = y} {xs = ys} m) t =

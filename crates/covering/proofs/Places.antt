@@ -216,10 +216,12 @@ module _ (L : Layout) (B : List ℕ) (i : ℕ) where
 
   pub atoms_more : (n : ℕ) → 0 < n → atoms_at L B i n ≡ atom_at L B i ∷ atoms_at L B (i + size L) (n - 1)
   unfolding atoms_at
+  atoms_more zero h = elim h [ ]
   atoms_more (suc n) h = rw suc_sub_one
 
   pub sound_more : (n : ℕ) → 0 < n → T (are_atoms L B i n) → T (is_atom L B i) × T (are_atoms L B (i + size L) (n - 1))
   unfolding are_atoms
+  sound_more zero h t = elim h [ ]
   sound_more (suc n) h t = (
     fst_of (is_atom L B i) (are_atoms L B (i + size L) n) t,
     rw suc_sub_one (snd_of (is_atom L B i) (are_atoms L B (i + size L) n) t),

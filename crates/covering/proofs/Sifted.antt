@@ -17,6 +17,7 @@ sift e [] = []
 sift e (a ∷ A) = a ∷ keep (λ b. not (e a b)) (sift e A)
 
 pub sift_out : (e : Atom → Atom → Bool) (A : Question) (a : Atom) → a ∈ sift e A → a ∈ A
+sift_out e [] a x' = elim x' [ ]
 sift_out e (b ∷ B) a (Memᴰ.head q) = Memᴰ.head q
 sift_out e (b ∷ B) a (Memᴰ.tail m) = Memᴰ.tail (sift_out e B a (keep_out _ (sift e B) m).0)
 

@@ -194,7 +194,7 @@ module _ (cov : Test) (Cov : Question → Question → Type 0) (decides : (A B :
           })
 
       -- what steps preserve, members have
-      module _ (Good : Question → Type 0) (first_Good : Good (form Q))
+      module _ (Good : Question → Type 0) (first_good : Good (form Q))
           (step-good : (M : Question) → Good M → (P : Question) → P ∈ steps M → length P ≤ lim.cap → Good P)
         where
           abbrev AllGood : State → Type 0
@@ -218,7 +218,7 @@ module _ (cov : Test) (Cov : Question → Question → Type 0) (decides : (A B :
           all_kept : KeptByExploration cov lim steps allowed Q AllGood GoodWithin
           all_kept =
               record {
-                first = λ N m. subst Good (sym (Memᴰ.eq_of_singleton m)) first_Good;
+                first = λ N m. subst Good (sym (Memᴰ.eq_of_singleton m)) first_good;
                 opens = λ s M e g. record { members = g; taken = g M (oldest_in s M e); pending = λ P x. x };
                 drops = λ M P Ps s t g. tail_good g.members g;
                 appends = λ M P Ps s a t g. tail_good (appended_good M P Ps s a g) g;

@@ -30,14 +30,14 @@ module _ (Cov : Question → Question → Type 0) (steps : Question → List Que
 
     module _ (cov : Test) (decides : (A B : Question) → T (cov A B) ↔ Cov A B) (itself : (A : Question) → Cov A A)
         (chain : (A B C : Question) → Cov A B → Cov B C → Cov A C) (lim : Limits) (allowed : ℕ)
-        (first_Good : Good (form Q)) (first-covers : Cov (form Q) Q)
+        (first_good : Good (form Q)) (first-covers : Cov (form Q) Q)
         (step-good : (M : Question) → Good M → (P : Question) → P ∈ steps M → length P ≤ lim.cap → Good P)
       where
         ended_left : {U : List Question} {n : ℕ} → Ends cov lim steps allowed Q (complete U n) → Left U
         ended_left (completes {s} {n} c e) =
             record {
               good =
-                  members_good cov Cov decides itself chain lim steps allowed Q Good first_Good step-good c;
+                  members_good cov Cov decides itself chain lim steps allowed Q Good first_good step-good c;
               question = question_covered cov Cov decides itself chain lim steps allowed Q first-covers c;
               closed =
                   λ M m X x.

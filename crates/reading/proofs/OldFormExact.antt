@@ -65,9 +65,9 @@ module _ (B : List ℕ) (s : SoundBook B) where
       (term_late (question_at B) (answer_records B + atoms B) j w l a m h)) h.0
 
   atom_needs : (i w : ℕ) → AtomOf B i → w < atom_places B → LateIn w i → NeedsNew (book_of B)
-  atom_needs i w (AtomOf.in_Body k j l h e) m v =
+  atom_needs i w (AtomOf.in_body k j l h e) m v =
       let late = subst (LateIn w) e v in
-      NeedsNew.in_Body (rule_at B (rule_start B k)) _ (rule_there k l)
+      NeedsNew.in_body (rule_at B (rule_start B k)) _ (rule_there k l)
       (among (rule_body B (rule_start B k))
       (term_late (body_at B (rule_start B k)) (body_count B (rule_start B k)) j w h ((sound_rule B s k l).body j h).used m
       late))
@@ -116,9 +116,9 @@ module _ (B : List ℕ) (s : SoundBook B) where
     form_not_needed (NeedsNew.relation r l h) =
         let b : r < relations B = omega (arith, relation_count B s) in
         none-late (header_size B + r) (NoOldForm.relation r b refl (omega (arith, places_same B s r b)))
-    form_not_needed (NeedsNew.in_Body r x m v h) =
+    form_not_needed (NeedsNew.in_body r x m v h) =
         let k = rule_at_lem B r m in
-        atoms_clear _ _ (λ j l. atom_clear _ (AtomOf.in_Body k.0 j k.1 l refl)) x
+        atoms_clear _ _ (λ j l. atom_clear _ (AtomOf.in_body k.0 j k.1 l refl)) x
         (among (sym (ap (λ (y : Rule). y.body) k.2 ∙ rule_body B (rule_start B k.0))) v) h
     form_not_needed (NeedsNew.in_head r x m v h) =
         let k = rule_at_lem B r m in

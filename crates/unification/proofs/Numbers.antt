@@ -54,6 +54,7 @@ numbers_blocks c i (suc m) =
     ∙ ap (numbers (i * c)) (sym more)
 
 pub choice_length : (h n : ℕ) (ds : Choice) → ds ∈ choices h n → length ds ≡ n
+choice_length h zero ds (Memᴰ.tail x5) = elim x5 [ ]
 choice_length h zero ds (Memᴰ.head e) = ap length e
 choice_length h (suc n) ds m =
     go (gather_out (λ d. map (λ es. d ∷ es) (choices h n)) (numbers 0 (suc h)) m) (choice_length h n)

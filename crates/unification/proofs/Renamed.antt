@@ -21,6 +21,7 @@ abbrev pub both_on : Sub → Pair → Pair
 both_on ρ p = (on_term ρ p.0, on_term ρ p.1)
 
 pub never_on : (ρ : Sub) (p : Pair) → p ∈ never → both_on ρ p ∈ never
+never_on ρ p (Memᴰ.tail x4) = elim x4 [ ]
 never_on ρ p (Memᴰ.head e) = Memᴰ.head (ap (both_on ρ) e)
 
 pub zip_on : (ρ : Sub) (ts us : List Term) (p : Pair) → p ∈ place_pairs ts us

@@ -37,6 +37,7 @@ bound (con c ∷ ts) = bound ts
 
 pub bound_above : (ts : List Term) (n : ℕ) → var n ∈ ts → n < bound ts
 unfolding bound
+bound_above [] n x' = elim x' [ ]
 bound_above (var k ∷ ts) n (Memᴰ.head e) = let q : n ≡ k = var_inj e in omega arith
 bound_above (var k ∷ ts) n (Memᴰ.tail m) = let q : n < bound ts = bound_above ts n m in omega arith
 bound_above (con c ∷ ts) n (Memᴰ.head e) = absurd (var≢con e)

@@ -28,6 +28,7 @@ Unrelated A H = (a b : Atom) → a ∈ A → b ∈ H → a.rel ≡ b.rel → ⊥
 
 -- a choice has a digit for each atom
 choice_long : (h n : ℕ) (ds : Choice) → ds ∈ choices h n → length ds ≡ n
+choice_long h zero ds (Memᴰ.tail x5) = elim x5 [ ]
 choice_long h zero ds (Memᴰ.head e) = ap length e
 choice_long h (suc n) ds m =
     let g = gather_out (λ d. map (λ es. d ∷ es) (choices h n)) (numbers 0 (suc h)) m in
