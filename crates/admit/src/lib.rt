@@ -1,6 +1,8 @@
 // Admitting one rewriting to a union in the working array: it is dropped where a member covers it; else the members that
 // it covers are removed and it is appended. specs/ says how the array holds a run's state; what admitting is stands in
 // `exploration`.
+#![tactic(auto)]
+
 mod admitting;
 mod removing;
 mod searching;

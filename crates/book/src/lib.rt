@@ -1,4 +1,6 @@
 // The stored book: its header in either form, and of a book in the new form its rules and its question.
+#![tactic(auto)]
+
 ghost use Rattle.std.specs.Prelude.{◌≡◌, ◌+◌, ◌≤◌, ltb, length};
 ghost use Rattle.reading.specs.Header.{HeaderRead, header_of, relations_at, header_size, form_of, new};
 ghost use Rattle.reading.specs.Book.{book_of};

@@ -1,4 +1,6 @@
 // Books that are refused, and books that are not: what `book::check` says of each, a line a book.
+#![tactic(auto)]
+
 mod books;
 
 ghost use Rattle.std.specs.Prelude.{◌+◌, ◌<◌, ◌≤◌, ◌≡◌, length};

@@ -1,5 +1,7 @@
 // Covering, and the search desk's operations over member records. The search is over records of six places an atom; the
 // desk widens those of four.
+#![tactic(auto)]
+
 mod desk;
 mod place;
 mod search;

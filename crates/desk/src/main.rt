@@ -3,6 +3,8 @@
 // `none`); then of the record that is kept, for each variable where it goes, `v0 to c1`, and for each atom which atom of
 // the other it meets, `r0(v0) meets r0(c1)`; then a line with a single full stop. It ends at a pair that is not all
 // there, or at a record that is longer than the buffer.
+#![tactic(auto)]
+
 mod meeting;
 
 ghost use Rattle.std.specs.Prelude.{◌≡◌, ◌<◌, length};

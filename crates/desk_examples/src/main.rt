@@ -1,5 +1,7 @@
 // The search desk on the bench's examples 1 to 3, on each way a record can be malformed, and on records at the
 // limits. A line has a name, whether the first record covers the second, and the bytes of the one to keep.
+#![tactic(auto)]
+
 mod limits;
 mod refusals;
 

@@ -73,7 +73,7 @@ applies_beside row r F H free_body free_head free-F a =
     more {n} m =
         subst (λ (l : List Term). var n ∈ l) (sym (after_terms (map con row) F)) (Memᴰ.append_right (map con row) m)
 
-pub chain_row : {rules : List Rule} (row : List ℕ) {F G : Question} → Chain rules G F
+pub chain_row : {rules : List Rule} (row : List ℕ) {G F : Question} → Chain rules G F
     → Chain rules (with_row row G) (with_row row F)
 chain_row row (here e) = here (ap (with_row row) e)
 chain_row row (apply r m a c) = apply r m (applies_row row a) (chain_row row c)

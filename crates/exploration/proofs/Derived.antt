@@ -37,7 +37,7 @@ module _ (k : ℕ) (rules : List Rule) (Q : Question) where
 
   module _ (U : List Question) (u : Union U) where
     -- if some member holds at the end of a chain, some member holds at its start
-    derived_holds : {F G : Question} → Chain rules G F → SomeHolds U G → SomeHolds U F
+    derived_holds : {G F : Question} → Chain rules G F → SomeHolds U G → SomeHolds U F
     derived_holds (here e) a = subst (SomeHolds U) (sym e) a
     derived_holds (apply {F} {H} r m one c) a = back (derived_holds c a)
       where

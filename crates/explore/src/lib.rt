@@ -1,5 +1,7 @@
 // The exploration: one book in, the whole union or a numbered refusal out. What the run is, and what it is worth, stands
 // in `exploration`; specs/ says how the functions hold its state.
+#![tactic(auto)]
+
 mod exploring;
 mod related;
 mod skipping;

@@ -1,4 +1,6 @@
 // Copying a stored book from one form to the other: what it says stays, each atom gets the wanted form's places.
+#![tactic(auto)]
+
 mod copying;
 mod old_form;
 mod put;

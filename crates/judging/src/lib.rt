@@ -1,4 +1,6 @@
 // Judging a stored book: its header, its relations, its rules and every byte of its atoms, in the order of the refusals.
+#![tactic(auto)]
+
 mod answer;
 mod header;
 mod judge;

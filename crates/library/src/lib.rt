@@ -1,6 +1,8 @@
 // What programs in Rust and in C call, one exported function for each operation that the office is offered. Each returns
 // the answer's number; every further number goes to a word that the caller lends, each array to a lent buffer, as many of
 // its bytes as that has room for.
+#![tactic(auto)]
+
 ghost use Rattle.std.specs.Prelude.{◌≡◌, cond, ℕ, ltb, length};
 ghost use Rattle.covering.specs.Desk.{covers_answer, covers_map, kept_answer, kept_map};
 ghost use Rattle.reading.specs.Copy.{CopiesNew, CopiesOld};

@@ -1,5 +1,7 @@
 // The lister of one-step rewritings: the next rewriting of a question by a rule, from a choice on. Choices are built up
 // atom by atom over the classes of `unify`.
+#![tactic(auto)]
+
 use covering::RECORD;
 
 mod builder;

@@ -1,4 +1,6 @@
 // Printing: a book's answer, as lines of text.
+#![tactic(auto)]
+
 mod lines;
 mod put;
 

@@ -1,5 +1,7 @@
 // The printing program: reads a book of at most 65,536 bytes from standard input, ignores what follows, and prints its
 // answer.
+#![tactic(auto)]
+
 use libc::{STDIN_FILENO, STDOUT_FILENO};
 
 fn main() {

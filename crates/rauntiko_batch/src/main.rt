@@ -1,6 +1,8 @@
 // The printing program for many books in one start: for each book it reads a length of four bytes, the low one first,
 // and the book's bytes, and writes what is printed for the book and a line with a single full stop. A book that is not
 // all there is left out.
+#![tactic(auto)]
+
 ghost use Rattle.std.specs.Prelude.{◌≡◌, ◌<◌, min};
 
 use libc::{STDIN_FILENO, STDOUT_FILENO};

@@ -1,5 +1,6 @@
 // The definitions of the stored book and of its refusals, and their laws: specs/ and proofs/. The code is in `book`;
 // declared here are the two answers that the definitions speak of.
+#![tactic(auto)]
 
 // The words of a book's header, in their order: the tenth tells how many places an atom has, which are four in a book
 // that has nine.

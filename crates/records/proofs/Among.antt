@@ -21,7 +21,7 @@ use Rattle.covering.specs.Record.{Layout, size, atom_at, atoms_at}
 use Rattle.covering.proofs.Places.{atoms_none, atoms_more, relation_at}
 use Rattle.covering.proofs.EachAtom.{each_none, each_fails, each_passes}
 use Rattle.covering.proofs.Relations.{relations_first}
-use Rattle.covering.proofs.Tests.{true→T, T→true, no→false, false→no, fst_of, snd_of}
+use Rattle.covering.proofs.Tests.{true→T, no→false, false→no, fst_of, snd_of}
 use Rattle.records.specs.Relations.{digit_of, is_in, joined_to, relations_of, are_in, is_part}
 
 -- digit k of two numbers' bits together, and that it is 1 where that of the first is
@@ -58,17 +58,17 @@ unfolding joined_to
 all_stay [] s n t = t
 all_stay (a ∷ A) s n t = all_stay A (bit_or s (digit_of a.rel)) n (stays_in s a.rel n t)
 
-all_in : (A : Question) (s : ℕ) (a : Atom) → a ∈ A → T (is_in (joined_to s A) a.rel)
+all_in : (a : Atom) (A : Question) (s : ℕ) → a ∈ A → T (is_in (joined_to s A) a.rel)
 unfolding joined_to
-all_in A s a (Memᴰ.head {x = b} {xs = B} e) =
+all_in a A s (Memᴰ.head {x = b} {xs = B} e) =
     subst (λ (n : ℕ). T (is_in (joined_to s (b ∷ B)) n)) (ap (λ (x : Atom). x.rel) (sym e))
     (all_stay B (bit_or s (digit_of b.rel)) b.rel (joined_in s b.rel))
-all_in A s a (Memᴰ.tail {x = b} {xs = B} m) = all_in B (bit_or s (digit_of b.rel)) a m
+all_in a A s (Memᴰ.tail {x = b} {xs = B} m) = all_in a B (bit_or s (digit_of b.rel)) m
 
 -- a relation of A that is not in the set of B's stands nowhere in B, so A does not cover B
 pub not_among : (A B : Question) {s : ℕ} → s ≡ relations_of B → are_in s A ≡ false → covers A B ≡ false
 unfolding are_in relations_of
-not_among A B {s} h e = relations_first A B (is_in s) (λ b m. rw h (all_in B 0 b m)) e
+not_among A B {s} h e = relations_first A B (is_in s) (λ b m. rw h (all_in b B 0 m)) e
 
 -- the digits of three numbers together, in either order
 max_three : (x y z : ℕ) → max (max x y) z ≡ max x (max y z)
@@ -160,8 +160,8 @@ pub none_in_both : (A B : Question) → bit_and (relations_of A) (relations_of B
 unfolding relations_of
 none_in_both A B e a b m n r =
     both_in (joined_to 0 A) (joined_to 0 B) b.rel
-    (subst (λ (x : ℕ). T (is_in (joined_to 0 A) x)) r (all_in A 0 a m))
-    (all_in B 0 b n) e
+    (subst (λ (x : ℕ). T (is_in (joined_to 0 A) x)) r (all_in a A 0 m))
+    (all_in b B 0 n) e
 
 -- the digit of a relation as the code makes it: nothing is shifted out
 digit_shifted : (n : ℕ) → 1 * 2 ^ (n % 64) % 2 ^ 64 ≡ digit_of n

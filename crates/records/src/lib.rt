@@ -1,6 +1,8 @@
 // Member records as bytes, of either width: whether bytes are a record, and its atoms copied from one width to another.
 // A record is a count byte and its atoms, a relation number and four or six places each, of which the first ones hold a
 // variable or a constant (128 to 254) and the rest 255. Inside all atoms have six.
+#![tactic(auto)]
+
 mod copying;
 mod record;
 mod sets;

@@ -1,5 +1,7 @@
 // What one rule makes of one question: each valid choice's number and its rewriting, a book a listing. The relation
 // numbers are in the order of the book's relations.
+#![tactic(auto)]
+
 ghost use Rattle.std.specs.Prelude.{◌≡◌, ◌+◌, ◌≤◌};
 ghost use Rattle.reading.specs.Header.{form_of, new};
 ghost use Rattle.reading.specs.Verdict.{SoundBook};

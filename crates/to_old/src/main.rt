@@ -1,5 +1,7 @@
 // Copies a book to the old form: reads a book of at most 65,536 bytes from standard input, ignores what follows, and
 // writes the copy, or a line with the refusal.
+#![tactic(auto)]
+
 use libc::{STDIN_FILENO, STDOUT_FILENO};
 
 // The line of a refusal.

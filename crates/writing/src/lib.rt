@@ -1,4 +1,6 @@
 // Writing: words, and a union as it is handed out, from the array in which it was built.
+#![tactic(auto)]
+
 mod union;
 mod words;
 
