@@ -21,7 +21,7 @@ pub const ROOM: usize = 64;
 
 // How far the working array is filled: where its members end, how many they are, and how many of them, from the first
 // on, are explored.
-#[derive(Drop)]
+#[derive(Clone, Copy)]
 pub struct Extent {
     pub len: usize,
     pub count: usize,
@@ -29,7 +29,7 @@ pub struct Extent {
 }
 
 // Members passed in the removal: where the next one stands, where the next kept one goes, and how many were kept.
-#[derive(Drop)]
+#[derive(Clone, Copy)]
 pub struct Moved {
     pub from: usize,
     pub to: usize,
@@ -38,7 +38,7 @@ pub struct Moved {
 
 // What becomes of one rewriting: a member covers it; it is appended, and the array is filled so far; or the run is
 // refused with that number.
-#[derive(Drop)]
+#[derive(Clone, Copy)]
 pub enum Fate {
     Dropped,
     Appended(Extent),

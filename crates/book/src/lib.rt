@@ -19,7 +19,7 @@ use judging::{
 pub use reading::{Header, Refusal};
 
 // Where the body and the head of a rule start in the book, and how many atoms each has.
-#[derive(Drop)]
+#[derive(Clone, Copy)]
 pub struct Parts {
     pub body: usize,
     pub bodies: usize,

@@ -17,14 +17,14 @@ pub const VARIABLES: usize = 96;
 
 // What covering answers: its number, and where it is 1 the first map. "Byte v is the term's byte that variable v goes
 // to; 255 where v does not stand in the first record, and everywhere when the answer is not 1."
-#[derive(Drop)]
+#[derive(Clone, Copy)]
 pub struct Covered {
     pub number: u8,
     pub map: [u8; MAP],
 }
 
 // Which of two records to keep, 0 neither, 1 the first, 2 the second, and the map by which it covers the other.
-#[derive(Drop)]
+#[derive(Clone, Copy)]
 pub struct Keeping {
     pub which: u8,
     pub map: [u8; MAP],

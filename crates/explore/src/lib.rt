@@ -16,7 +16,7 @@ pub const OUTPUT: usize = 4104;
 
 // The next rewriting: whether there is one, and the numbers of its rule and of its choice. Its record goes to the room
 // that is lent for it.
-#[derive(Drop)]
+#[derive(Clone, Copy)]
 pub struct Taken {
     pub found: bool,
     pub rule: usize,
@@ -25,7 +25,7 @@ pub struct Taken {
 
 // How long an exploration waits before it asks whether choices can be passed over: by that rule, so many drops more, and
 // so many the next time.
-#[derive(Drop)]
+#[derive(Clone, Copy)]
 pub struct Patience {
     pub rule: usize,
     pub drops: usize,
@@ -33,7 +33,7 @@ pub struct Patience {
 }
 
 // Where the exploration goes on after a drop, and how patient it is then.
-#[derive(Drop)]
+#[derive(Clone, Copy)]
 pub struct Resumed {
     pub from: usize,
     pub patience: Patience,
@@ -41,7 +41,7 @@ pub struct Resumed {
 
 // What becomes of the exploration of one member: it is through, and the array is filled so far; or the run is refused
 // with that number.
-#[derive(Drop)]
+#[derive(Clone, Copy)]
 pub enum Explored {
     Passed(Extent),
     Refused(u8),
@@ -49,7 +49,7 @@ pub enum Explored {
 
 // What becomes of the run: it is complete, the array is filled so far and so many questions were explored; or it is
 // refused with that number, and so many were taken up.
-#[derive(Drop)]
+#[derive(Clone, Copy)]
 pub enum Ran {
     Complete(Extent, usize),
     Refused(u8, usize),
@@ -57,7 +57,7 @@ pub enum Ran {
 
 // "The answer is a number and a place. 0 means complete, and the place is the total length written. Every other number
 // means that no output byte changed."
-#[derive(Drop)]
+#[derive(Clone, Copy)]
 pub struct Answer {
     pub number: u8,
     pub place: usize,

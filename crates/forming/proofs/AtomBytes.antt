@@ -106,6 +106,7 @@ module _ (B : List ℕ) where
 -- a byte of a sound atom of the desk, after the first, is a variable's, a constant's or 255
 pub place_byte : (B : List ℕ) (i j : ℕ) → T (is_atom stored B i) → 0 < j → j < 7 → 96 ≤ get_or B (i + j) 0
     → 128 ≤ get_or B (i + j) 0
+place_byte B i zero t pos lt le = elim pos [ ]
 place_byte B i (suc k) t pos lt le = go (place_is B stored 6 (i + 1) k (atom_used stored B i t) (omega arith))
   where
     e : i + suc k ≡ i + 1 + k
@@ -156,6 +157,7 @@ module _ (L : Layout) (ap-L : TellsApart L) (s : Sub) (B : List ℕ) where
   pub atom_on_place : (i j : ℕ) → T (is_atom L B i) → 0 < j → j < size L
       → get_or (atom_bytes L (on_atom s (atom_at L B i))) j 0 ≡ byte_on (get_or B (i + j) 0)
   unfolding atom_bytes atom_at
+  atom_on_place i zero t pos lt = elim pos [ ]
   atom_on_place i (suc k) t pos lt =
       rw (further i k) (places_on L.places (i + 1) k (atom_used L B i t) (omega arith))
 

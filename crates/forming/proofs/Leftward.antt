@@ -104,7 +104,7 @@ module _ {A : Type 0} (eq : A → A → Bool) where
             ∙ ap kept (sym e)
 
     from_none : (l : List A) → added_all eq [] l ≡ sifted l
-    from_none l = onto [] l ∙ keep_all _ (sifted l) (λ b m. tt)
+    from_none l = onto [] l ∙ keep_all (λ x. not (has {A = A} eq [] x)) (sifted l) (λ b m. tt {0})
 
 -- "Equal atoms are dropped but for the first"
 pub dedup_leftward : (A : Question) → dedup A ≡ added_all eq_atom [] A

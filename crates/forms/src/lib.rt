@@ -11,7 +11,7 @@ pub use copying::{to_new, to_old};
 pub const BOOK: usize = 2003;
 
 // What became of a copy: 0 and its length, or the refusal's number and place.
-#[derive(Drop)]
+#[derive(Clone, Copy)]
 pub struct Copy {
     pub number: u8,
     pub place: usize,

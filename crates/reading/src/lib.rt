@@ -4,7 +4,7 @@
 
 // The words of a book's header, in their order: the tenth tells how many places an atom has, which are four in a book
 // that has nine.
-#[derive(Drop)]
+#[derive(Clone, Copy)]
 pub struct Header {
     pub relations: usize,
     pub constants: usize,
@@ -19,7 +19,7 @@ pub struct Header {
 }
 
 // Why a book is refused, and the place; 0 and 0 where it is not.
-#[derive(Drop)]
+#[derive(Clone, Copy)]
 pub struct Refusal {
     pub number: u8,
     pub place: usize,

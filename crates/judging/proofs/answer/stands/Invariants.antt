@@ -1,0 +1,22 @@
+-- A variable that none of the atoms passed has stands where it stands in those left. Assumes nothing.
+use borrow.Author.Rules.{rules}
+use native.Mathlib.Omega.{arith}
+use mathlib.Core.Path.{◌≡◌, sym, ◌∙◌}
+use Prim.Native.Nat.{◌+◌, ◌*◌, ◌-◌, ◌≤◌, ◌<◌}
+use native.Mathlib.Nat.{sub-zero}
+use lib.ListN.{length}
+use Rattle.covering.specs.Lists.{any}
+use Rattle.covering.specs.Term.{var, terms, eq_term}
+use Rattle.covering.specs.Record.{holding, atoms_at}
+use Rattle.judging.proofs.JudgingSteps.{bytes_left}
+use Rattle.judging.proofs.AnswerSteps.{no_variable, is_variable, stands_end, stands_found, stands_next}
+use Rattle.judging.proofs.answer.stands.Given as goal
+
+abbrev pub invariant-loop-k : goal.invariant-loop-k
+invariant-loop-k l = (l.k ≤ l.n)
+    × (l.at + (1 + l.w) * (l.n - l.k) ≤ length l.book)
+    × (any (eq_term (var l.b)) (terms (atoms_at (holding l.w) l.book l.i l.n))
+    ≡ any (eq_term (var l.b)) (terms (atoms_at (holding l.w) l.book l.at (l.n - l.k))))
+
+abbrev pub decreases-loop-k : goal.decreases-loop-k
+decreases-loop-k l = l.n - l.k
