@@ -21,6 +21,7 @@ use Rattle.covering.proofs.Bytes.{term_same, term_var, term_con, args_more, args
 
 -- a byte of the map, whatever stands past its end
 get_d_default : (m : List ℕ) (n d e : ℕ) → n < length m → get_or m n d ≡ get_or m n e
+get_d_default [] n d e h = elim h [ ]
 get_d_default (x ∷ m) zero d e h = refl
 get_d_default (x ∷ m) (suc n) d e h = get_d_default m n d e (omega arith)
 

@@ -87,6 +87,7 @@ module _ (m : List ℕ) (t u : ℕ) where
   term_sends l c f s = go (le_or_lt 96 t) (either (eqb (get_or m t 0) 255))
     where
       held : (b : Bool) → T (is_some (cond b (some (part_of m)) none)) → cond b (some (part_of m)) none ≡ some (part_of m)
+      held false x = elim x [ ]
       held true x = refl
 
       go : (96 ≤ t) ⊎ (t < 96) → (eqb (get_or m t 0) 255 ≡ true) ⊎ (eqb (get_or m t 0) 255 ≡ false)

@@ -29,6 +29,7 @@ moved_constant u h = term_con u h ∙ sym (ap (on_term (up 48)) (term_con u h))
 -- an entry of the classes, whatever stands past their end
 pub classes_at : (m : List ℕ) (n : ℕ) (d : Term) → n < length m → get_or (classes_of m) n d ≡ term_of (get_or m n 0)
 unfolding classes_of
+classes_at mathlib.Core.List.[] n d h = elim h [ ]
 classes_at (x ∷ m) zero d h = refl
 classes_at (x ∷ m) (suc n) d h = classes_at m n d (omega arith)
 

@@ -1,0 +1,15 @@
+-- `cover::place::goes_to` meets its contract. The loop's invariant: after n places the variable goes nowhere yet. The
+-- measure is the number of places left.
+use native.Mathlib.Omega.{arith}
+use mathlib.Core.Path.{◌≡◌, sym, ap, ◌∙◌}
+use Prim.Native.Nat.{◌-◌, ◌≤◌}
+use lib.ListN.{get_or}
+use Rattle.cover.specs.HeldMap.{sent_to}
+use Rattle.cover.proofs.Sent.{sent_none, sent_kept, sent_first, sent_passes}
+use Rattle.cover.proofs.place.goes_to.Given as goal
+
+abbrev pub invariant-loop-n : goal.invariant-loop-n
+invariant-loop-n l = (l.n ≤ l.j) × (get_or (sent_to l.map l.first l.second l.i l.k l.n) l.t 0 ≡ 255)
+
+abbrev pub decreases-loop-n : goal.decreases-loop-n
+decreases-loop-n l = l.j - l.n

@@ -1,0 +1,75 @@
+-- `cover::place::terms_meet` meets its contract. The loop's invariant: sending all the places is sending those from the
+-- j-th on under the map that the places before make, and these are sound. The measure is the number of places left.
+use native.Mathlib.Omega.{arith}
+use native.Mathlib.Nat.{add-zero}
+use mathlib.Core.Path.{◌≡◌, refl, sym, ap, ◌∙◌}
+use Prim.Native.Nat.{ℕ, ◌+◌, ◌-◌, ◌≤◌, ◌<◌}
+use borrow.Author.Tests.{not-true, not-false}
+use lib.Dec.{T}
+use lib.ListN.{get_or}
+use Rattle.covering.specs.Lists.{is_some}
+use Rattle.covering.specs.Search.{place_terms}
+use Rattle.covering.specs.Record.{stored, args_at, used_first}
+use Rattle.cover.specs.HeldMap.{part_of, sent_to}
+use Rattle.covering.proofs.Bytes.{used_more, term_constant}
+use Rattle.cover.proofs.Maps.{places_end, places_short, places_clash, places_done}
+use Rattle.cover.proofs.Sent.{sent_none}
+use Rattle.cover.proofs.Meeting.{some_if, one_used, sent_next, not_some}
+use Rattle.cover.proofs.place.terms_meet.Goals as goal
+
+pub loop-j-init : goal.loop-j-init
+loop-j-init c =
+    (omega arith, rw add-zero c.requires.3, (λ n lt. absurd (omega arith)), rw (add-zero, add-zero, sent_none) refl)
+
+pub returns-then-first-i : goal.returns-then-first-i
+returns-then-first-i c =
+    let a = c.args in
+    sym
+    (ap is_some
+    (c.loop-j.invariant.3
+    ∙ places_end a.first.now a.second.now a.i a.k c.loop-j.j 6 (omega arith) _ c.if-first-i.true)
+    ∙ some_if _ _)
+
+pub returns-then-second-k : goal.returns-then-second-k
+returns-then-second-k c =
+    let a = c.args in
+    sym
+    (ap is_some
+    (c.loop-j.invariant.3
+    ∙ places_short a.first.now a.second.now a.i a.k c.loop-j.j 6 (omega arith) _ c.if-first-i.false
+    c.if-second-k.true))
+
+pub term_meets-requires : goal.term_meets-requires
+term_meets-requires c =
+    let a = c.args in
+    let used = c.if-first-i.false in
+    let u = used_more a.first.now a.i c.loop-j.j 6 (omega arith) stored c.loop-j.invariant.1 used in
+    (c.requires.0, omega arith, omega arith, c.loop-j.invariant.2, c.if-second-k.false, term_constant stored _ u.0)
+
+pub returns-then-not-term_meets : goal.returns-then-not-term_meets
+returns-then-not-term_meets c =
+    let a = c.args in
+    let m = c.term_meets.ensures in
+    sym
+    (ap is_some
+    (c.loop-j.invariant.3
+    ∙ places_clash a.first.now a.second.now a.i a.k c.loop-j.j 6 (omega arith) _
+    c.if-first-i.false c.if-second-k.false
+    (not_some _ (sym m ∙ c.if-not-term_meets.true))))
+
+pub loop-j-preserved : goal.loop-j-preserved
+loop-j-preserved c =
+    let a = c.args in
+    let m = c.term_meets.ensures in
+    let used = c.if-first-i.false in
+    let u = used_more a.first.now a.i c.loop-j.j 6 (omega arith) stored c.loop-j.invariant.1 used in (
+      omega arith,
+      u.1,
+      one_used a.second.now a.k c.loop-j.j c.loop-j.invariant.2 c.if-second-k.false,
+      c.loop-j.invariant.3
+          ∙ sent_next _ _ _ _ _ 6 c.requires.0 _ (omega arith) c.loop-j.invariant.1 used c.if-second-k.false
+          (sym m ∙ c.if-not-term_meets.false),
+    )
+
+pub returns : goal.returns
+returns c = sym (ap is_some (c.loop-j.invariant.3 ∙ places_done _ _ _ _ _ _ (omega arith)))

@@ -1,0 +1,39 @@
+-- `cover::search::all_have` meets its contract. The loop's invariant: all atoms have a candidate exactly where those
+-- from here on have, and these are sound. The measure is their number.
+use native.Mathlib.Omega.{arith}
+use mathlib.Core.Path.{◌≡◌, refl, sym, ◌∙◌}
+use borrow.Author.Tests.{not-true, not-false}
+use Rattle.covering.specs.Lists.{all}
+use Rattle.covering.specs.Record.{stored, atoms_at, question_of}
+use Rattle.cover.specs.HeldMap.{part_of}
+use Rattle.covering.specs.Buffer.{AtomsIn}
+use Rattle.cover.specs.Candidates.{has_candidate}
+use Rattle.covering.proofs.EachAtom.{each_none, each_fails, each_passes}
+use Rattle.covering.proofs.Places.{sound_more}
+use Rattle.cover.proofs.search.all_have.Goals as goal
+
+pub loop-more-init : goal.loop-more-init
+loop-more-init c = (c.requires.1, refl)
+
+pub has_candidate-requires : goal.has_candidate-requires
+has_candidate-requires c =
+    let l = c.loop-more in
+    (c.requires.0, omega arith, (sound_more stored _ _ _ (omega arith) l.invariant.0.sound).0, c.requires.2)
+
+pub returns-then-not-has_candidate : goal.returns-then-not-has_candidate
+returns-then-not-has_candidate c =
+    let h = c.has_candidate in
+    sym
+    (c.loop-more.invariant.1
+    ∙ each_fails stored _ _ _ _ (omega arith) (sym h.ensures ∙ c.if-not-has_candidate.true))
+
+pub loop-more-preserved : goal.loop-more-preserved
+loop-more-preserved c =
+    let h = c.has_candidate in
+    let l = c.loop-more in (
+      record { fits = omega arith; sound = (sound_more stored _ _ _ (omega arith) l.invariant.0.sound).1 },
+      l.invariant.1 ∙ each_passes stored _ _ _ _ (omega arith) (sym h.ensures ∙ c.if-not-has_candidate.false),
+    )
+
+pub returns : goal.returns
+returns c = sym (c.loop-more.invariant.1 ∙ each_none stored _ _ _ _ (omega arith))

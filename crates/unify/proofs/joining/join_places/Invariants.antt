@@ -1,0 +1,34 @@
+-- `unify::joining::join_places` meets its contract. The loop's invariant: putting all places together is putting
+-- those from the j-th on together under the classes so far, the head's are sound, and the table is as long
+-- as it was. The measure is the number of
+-- places left.
+use native.Mathlib.Omega.{arith}
+use mathlib.Core.Path.{ap, ap₂, ◌≡◌, refl, sym, ◌∙◌}
+use Prim.Native.Nat.{◌+◌, ◌-◌, ◌≤◌}
+use native.Mathlib.Nat.{add-zero}
+use mathlib.Core.List.{map}
+use borrow.Author.Tests.{not-true, not-false}
+use lib.Dec.{T}
+use lib.ListN.{length, get_or}
+use Rattle.covering.specs.Term.{on_term}
+use Rattle.covering.specs.Record.{term_of, args_at, used_first}
+use Rattle.covering.proofs.Bytes.{used_more, term_constant}
+use Rattle.unification.specs.Choice.{place_pairs}
+use Rattle.unification.specs.Step.{up}
+use Rattle.unify.specs.Table.{look, join_table, unify_table}
+use Rattle.unify.specs.InBytes.{in_book, classes_of, merged}
+use Rattle.unify.proofs.TableBytes.{merged_yes, merged_no}
+use Rattle.unify.proofs.Joins.{joins_done, joins_end, joins_short, joins_clash, joins_next}
+use Rattle.unify.proofs.joining.join_places.Given as goal
+
+abbrev pub invariant-loop-j : goal.invariant-loop-j
+invariant-loop-j l = (l.j ≤ 6)
+    × T (used_first in_book l.book (l.k + l.j) (6 - l.j))
+    × (length l.table ≡ 96)
+    × (unify_table (place_pairs (args_at l.question l.i 6) (map (on_term (up 48)) (args_at l.book l.k 6))) (classes_of l.initial.table)
+    ≡ unify_table
+    (place_pairs (args_at l.question (l.i + l.j) (6 - l.j)) (map (on_term (up 48)) (args_at l.book (l.k + l.j) (6 - l.j))))
+    (classes_of l.table))
+
+abbrev pub decreases-loop-j : goal.decreases-loop-j
+decreases-loop-j l = 6 - l.j

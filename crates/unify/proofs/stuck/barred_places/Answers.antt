@@ -1,0 +1,56 @@
+-- `unify::stuck::barred_places` meets its contract. The loop's invariant: the pairs from the j-th place on are among those
+-- of the two atoms, and the head's places are sound. The measure is the number of places left.
+use native.Mathlib.Omega.{arith}
+use native.Mathlib.Nat.{add-zero}
+use mathlib.Core.Path.{◌≡◌, sym, subst}
+use mathlib.Core.Bool.{true≢false}
+use mathlib.Core.List.{map}
+use Prim.Native.Nat.{◌+◌, ◌-◌, ◌≤◌}
+use lib.Dec.{T}
+use Rattle.covering.specs.Term.{Term, on_term}
+use Rattle.covering.specs.Record.{args_at, used_first}
+use Rattle.covering.proofs.Bytes.{used_more, term_constant}
+use Rattle.unification.specs.Choice.{place_pairs}
+use Rattle.unification.specs.Step.{up}
+use Rattle.unify.specs.InBytes.{in_book}
+use Rattle.unify.specs.Stuck.{TiedTo}
+use Rattle.unify.proofs.StuckBytes.{Within, first_within, rest_within, pairs_more}
+use Rattle.unify.proofs.stuck.barred_places.Goals as goal
+
+pub loop-j-init : goal.loop-j-init
+loop-j-init c = (omega arith, rw add-zero c.requires.5, rw (add-zero, add-zero) (λ x m. m))
+
+pub returns-then-t : goal.returns-then-t
+returns-then-t c = λ e. absurd (true≢false (sym e))
+
+pub returns-then-u : goal.returns-then-u
+returns-then-u c = λ e. absurd (true≢false (sym e))
+
+pub moved-requires : goal.moved-requires
+moved-requires c =
+    let a = c.args in
+    let u = used_more a.book.now a.k c.loop-j.j 6 (omega arith) in_book c.loop-j.invariant.1 c.if-u.false in
+    term_constant in_book _ u.0
+
+pub tied_to-requires : goal.tied_to-requires
+tied_to-requires c = (c.requires.0, c.requires.1, c.requires.2)
+
+pub returns-then-tied_to : goal.returns-then-tied_to
+returns-then-tied_to c =
+    λ e.
+    (
+      _,
+      first_within (pairs_more _ _ _ _ c.loop-j.j 6 (omega arith) c.if-t.false c.if-u.false) c.loop-j.invariant.2,
+      subst (TiedTo _ _ _) c.moved.ensures (c.tied_to.ensures c.if-tied_to.true),
+    )
+
+pub loop-j-preserved : goal.loop-j-preserved
+loop-j-preserved c =
+    let a = c.args in (
+      omega arith,
+      (used_more a.book.now a.k c.loop-j.j 6 (omega arith) in_book c.loop-j.invariant.1 c.if-u.false).1,
+      rest_within (pairs_more _ _ _ _ c.loop-j.j 6 (omega arith) c.if-t.false c.if-u.false) c.loop-j.invariant.2,
+    )
+
+pub returns : goal.returns
+returns c = λ e. absurd (true≢false (sym e))

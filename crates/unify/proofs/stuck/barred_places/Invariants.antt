@@ -1,0 +1,27 @@
+-- `unify::stuck::barred_places` meets its contract. The loop's invariant: the pairs from the j-th place on are among those
+-- of the two atoms, and the head's places are sound. The measure is the number of places left.
+use native.Mathlib.Omega.{arith}
+use native.Mathlib.Nat.{add-zero}
+use mathlib.Core.Path.{◌≡◌, sym, subst}
+use mathlib.Core.Bool.{true≢false}
+use mathlib.Core.List.{map}
+use Prim.Native.Nat.{◌+◌, ◌-◌, ◌≤◌}
+use lib.Dec.{T}
+use Rattle.covering.specs.Term.{Term, on_term}
+use Rattle.covering.specs.Record.{args_at, used_first}
+use Rattle.covering.proofs.Bytes.{used_more, term_constant}
+use Rattle.unification.specs.Choice.{place_pairs}
+use Rattle.unification.specs.Step.{up}
+use Rattle.unify.specs.InBytes.{in_book}
+use Rattle.unify.specs.Stuck.{TiedTo}
+use Rattle.unify.proofs.StuckBytes.{Within, first_within, rest_within, pairs_more}
+use Rattle.unify.proofs.stuck.barred_places.Given as goal
+
+abbrev pub invariant-loop-j : goal.invariant-loop-j
+invariant-loop-j l = (l.j ≤ 6)
+    × T (used_first in_book l.book (l.k + l.j) (6 - l.j))
+    × Within (place_pairs (args_at l.question (l.i + l.j) (6 - l.j)) (map (on_term (up 48)) (args_at l.book (l.k + l.j) (6 - l.j))))
+    (place_pairs (args_at l.question l.i 6) (map (on_term (up 48)) (args_at l.book l.k 6)))
+
+abbrev pub decreases-loop-j : goal.decreases-loop-j
+decreases-loop-j l = 6 - l.j
