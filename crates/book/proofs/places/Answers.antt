@@ -8,8 +8,7 @@ use Prim.Native.Nat.{ℕ}
 use Rattle.covering.specs.Record.{old_places}
 use Rattle.reading.specs.Header.{relations_at, tenth_word, is_new, header_of, new}
 use Rattle.reading.proofs.Forms.{is_new_lem, new_header}
-use Rattle.book.proofs.places.Statement.{statement}
-use Rattle.book.proofs.places.Tie as tie
+use Rattle.book.proofs.places.Goals as goal
 
 told : (B : List ℕ) {b : Bool} → is_new B ≡ b → cond b (tenth_word B) old_places ≡ (header_of B).places
 told B e = ap (λ (x : Bool). cond x (tenth_word B) old_places) (sym e)
@@ -17,23 +16,17 @@ told B e = ap (λ (x : Bool). cond x (tenth_word B) old_places) (sym e)
 says : (B : List ℕ) {t : ℕ} → t ≡ relations_at B → t ≡ new.header → is_new B ≡ true
 says B e d = eq-eqb (relations_at B) new.header (sym e ∙ d)
 
-word-requires : tie.Need-word-requires
-word-requires c κs =
-    let start = c.before.before in
-    let B = start.args.book.now in
-    omega (arith, start.requires.1, new_header B (is_new_lem B (says B start.requires.0 c.if1.true)))
+pub word-requires : goal.word-requires
+word-requires c =
+    let B = c.args.book.now in
+    omega (arith, c.requires.1, new_header B (is_new_lem B (says B c.requires.0 c.if-table-eq-NEW_HEADER.true)))
 
-returns : tie.Need-returns
+pub returns-then-table-eq-NEW_HEADER : goal.returns-then-table-eq-NEW_HEADER
+returns-then-table-eq-NEW_HEADER c =
+    let B = c.args.book.now in
+    c.word.ensures.0 ∙ told B (says B c.requires.0 c.if-table-eq-NEW_HEADER.true)
+
+pub returns : goal.returns
 returns c =
-    let start = c.before.before.before in
-    let B = start.args.book.now in
-    c.word.ensures.0 ∙ told B (says B start.requires.0 c.before.if1.true)
-
-returns-2 : tie.Need-returns-2
-returns-2 c =
-    let start = c.before.before in
-    let B = start.args.book.now in
-    told B (ne_eqb (relations_at B) new.header (λ d. c.if1.false (start.requires.0 ∙ d)))
-
-pub places-spec : {M : Type 1} → statement M
-places-spec = tie.close (tie.spec word-requires returns returns-2)
+    let B = c.args.book.now in
+    told B (ne_eqb (relations_at B) new.header (λ d. c.if-table-eq-NEW_HEADER.false (c.requires.0 ∙ d)))

@@ -1,0 +1,52 @@
+-- `writing::union::put_members` meets its contract. The loop's invariant: the members passed are put. The measure is the
+-- number of members left.
+use borrow.Author.Rules.{rules}
+use native.Mathlib.Omega.{arith}
+use mathlib.Core.Path.{◌≡◌, sym, subst}
+use Prim.Native.Nat.{ℕ, ◌+◌, ◌-◌}
+use lib.ListN.{length}
+use Rattle.writing.proofs.Members.{SoFar, none_put, all_put, one_put, here_is, here_has, here_narrow, same_room}
+use Rattle.writing.proofs.union.put_members.Goals as goal
+
+pub loop-i-init : goal.loop-i-init
+loop-i-init c =
+    none_put _ _ _ _ _ c.requires.0 c.requires.1 c.requires.2 c.requires.4 (omega (arith, c.requires.4, c.requires.5))
+
+pub put_member-at-requires : goal.put_member-at-requires
+put_member-at-requires c =
+    let inv = c.loop-i.invariant in
+    let more = c.loop-i-test.true in
+    let h = here_is _ _ _ _ _ inv more in (
+      omega (arith, h.within),
+      h.sound,
+      here_has _ _ _ _ _ inv more,
+      here_narrow _ _ _ _ _ inv more,
+      c.requires.3,
+      omega (arith, h.within, inv.behind, c.requires.5, same_room _ _ _ _ _ inv),
+    )
+
+pub bounds-work-from : goal.bounds-work-from
+bounds-work-from c = omega (arith, (here_is _ _ _ _ _ c.loop-i.invariant c.loop-i-test.true).within)
+
+pub overflow_add-from : goal.overflow_add-from
+overflow_add-from c =
+    omega (arith, (here_is _ _ _ _ _ c.loop-i.invariant c.loop-i-test.true).within, c.width-from.ensures)
+
+pub loop-i-preserved : goal.loop-i-preserved
+loop-i-preserved c =
+    let a = c.args in
+    let inv = c.loop-i.invariant in
+    subst
+    (λ (k : ℕ). SoFar a.w a.answers a.work.now a.n a.out.now c.put_member-at.new.out
+    (c.loop-i.from + k) c.put_member-at.result (c.loop-i.i + 1))
+    (sym c.width-from.ensures)
+    (one_put _ _ _ _ _ inv c.loop-i-test.true c.requires.3
+    c.put_member-at.ensures)
+
+pub shape_of-out : goal.shape_of-out
+shape_of-out c = same_room _ _ _ _ _ c.loop-i.invariant
+
+pub returns : goal.returns
+returns c =
+    let inv = c.loop-i.invariant in
+    (all_put _ _ _ _ _ inv c.loop-i-test.false, omega (arith, inv.behind, inv.within))
