@@ -1,5 +1,6 @@
 -- What the builder's two functions answer: one law for each way through their code. The arguments of the call that a
 -- law is about are read off what the call was asked (Asks, Tries) or has reached. Assumes nothing.
+use Prim.Native.Nat.{zero}
 use mathlib.Core.Path.{◌≡◌, refl, sym, ◌∙◌, ap, subst}
 use mathlib.Core.Bool.{Bool, true, false}
 use mathlib.Core.List.{List, [], ◌∷◌, ◌++◌}
@@ -140,6 +141,7 @@ pub pairs_are : (B : List ℕ) (p : Parts) (a : Atom) (d : ℕ) → 0 < d → d 
     × (to_head (move 48 (rule_of B p)).head e a
     ≡ atom_pairs a (on_atom (up 48) (atom_at stored B (p.head + (d - 1) * 7))))
 unfolding rule_in
+pairs_are B p a zero h le = elim h [ ]
 pairs_are B p a (suc e) h le = (
   e,
   refl,

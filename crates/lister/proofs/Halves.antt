@@ -19,6 +19,7 @@ use Rattle.lister.specs.Listing.{ClassesFit, UpperHalf}
 -- each entry of a table stands for a class
 pub in_classes : (m : List ℕ) (n : ℕ) → n < length m → term_of (get_or m n 0) ∈ classes_of m
 unfolding classes_of
+in_classes [] n h = elim h [ ]
 in_classes (x ∷ m) zero h = Memᴰ.head refl
 in_classes (x ∷ m) (suc n) h = Memᴰ.tail (in_classes m n (omega arith))
 

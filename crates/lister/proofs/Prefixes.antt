@@ -30,6 +30,7 @@ module _ {X : Type 0} (f : ℕ → Option X) where
   digits_none d n e = rw e
 
   pub digits_hit : (d n : ℕ) {x : X} → 0 < n → f d ≡ some x → first_of f (numbers d n) ≡ some x
+  digits_hit d zero h e = elim h [ ]
   digits_hit d (suc n) h e = rw e
 
   pub digits_miss : (d n m e : ℕ) → n ≡ suc m → e ≡ suc d → f d ≡ none
