@@ -1,0 +1,18 @@
+-- `forms::put::put_bytes` meets its contract. The loop's invariant: the bytes passed are put. The measure is the number
+-- of those left.
+use borrow.Author.Rules.{rules}
+use native.Mathlib.Omega.{arith}
+use mathlib.Core.Path.{◌≡◌, sym, ap, subst}
+use mathlib.Core.List.{List, [], ◌∷◌, ◌++◌}
+use Prim.Native.Nat.{ℕ, ◌+◌, ◌-◌, ◌≤◌}
+use lib.ListN.{length, get_or, set, take, drop, length-set}
+use Rattle.covering.specs.Put.{Puts}
+use Rattle.covering.proofs.Putting.{put_none, put_one, put_as, then, kept}
+use Rattle.forms.proofs.Steps.{byte_more}
+use Rattle.forms.proofs.put.put_bytes.Given as goal
+
+abbrev pub invariant-loop-k : goal.invariant-loop-k
+invariant-loop-k l = (l.k ≤ l.n) × Puts (take l.k (drop l.i l.from)) l.initial.out l.at (l.at + l.k) l.out
+
+abbrev pub decreases-loop-k : goal.decreases-loop-k
+decreases-loop-k l = l.n - l.k

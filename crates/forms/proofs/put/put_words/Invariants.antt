@@ -1,0 +1,19 @@
+-- `forms::put::put_words` meets its contract. The loop's invariant: the words passed are put, two bytes each. The
+-- measure is the number of those left.
+use borrow.Author.Rules.{rules}
+use native.Mathlib.Omega.{arith}
+use mathlib.Core.Path.{◌≡◌, subst}
+use Prim.Native.Nat.{ℕ, ◌+◌, ◌*◌, ◌-◌, ◌≤◌}
+use lib.ListN.{length, take}
+use Rattle.covering.specs.Lists.{gather}
+use Rattle.covering.specs.Put.{Puts}
+use Rattle.covering.proofs.Putting.{put_none, put_as, then, kept}
+use Rattle.reading.specs.Word.{word_bytes}
+use Rattle.forms.proofs.Steps.{word_more}
+use Rattle.forms.proofs.put.put_words.Given as goal
+
+abbrev pub invariant-loop-k : goal.invariant-loop-k
+invariant-loop-k l = (l.k ≤ l.n) × (l.at ≡ 2 * l.k) × Puts (gather word_bytes (take l.k l.words)) l.initial.out 0 l.at l.out
+
+abbrev pub decreases-loop-k : goal.decreases-loop-k
+decreases-loop-k l = l.n - l.k
