@@ -10,7 +10,7 @@ ghost use Rattle.reading.specs.Header.{form_of, new};
 ghost use Rattle.reading.specs.Verdict.{SoundBook};
 ghost use Rattle.printing.specs.Printed.{printed};
 ghost use Rattle.printing.specs.Answer.{lines_of, text_size};
-ghost use Rattle.exploration.specs.Answer.{result};
+ghost use Rattle.exploration.specs.Answer.{result as result_of};
 ghost use Rattle.exploration.specs.Union.{output_size};
 ghost use Rattle.printing.specs.Printable.{result_in, Printable};
 ghost use Rattle.covering.specs.Put.{Puts};
@@ -22,7 +22,7 @@ use lines::{put_line, put_members};
 // The little-endian word at i.
 fn word(s: &[u8], i: usize) -> usize
     requires { i + 2 ≤ length s.now }
-    ensures* { λ r. ⌜ r ≡ word_at s.now i ⌝ }
+    ensures { result ≡ word_at s.now i }
 {
     (s[i] as usize) + 256 * (s[i + 1] as usize)
 }
@@ -31,12 +31,12 @@ fn word(s: &[u8], i: usize) -> usize
 // and answers where it ends.
 fn print(number: u8, place: usize, output: &[u8], answers: u8, text: &mut [u8]) -> usize
     requires { Printable answers number place output.now (length text.old) }
-    ensures* { λ r. ⌜ Puts
+    ensures { Puts
         (printed (result_in answers number place output.now))
         text.old
         0
-        r
-        text.new ⌝ }
+        result
+        text.new }
 {
     if number != 0 {
         return put_line(text, 0, b"refused ", number as usize, b" at ", place);
@@ -51,7 +51,7 @@ fn print(number: u8, place: usize, output: &[u8], answers: u8, text: &mut [u8]) 
 // How many answer records each member of a book's union has; of a book that is refused nothing is asked.
 fn answer_records(book: &[u8], number: u8) -> u8
     requires { number ≡ 0 → SoundBook book.now }
-    ensures* { λ r. ⌜ (number ≡ 0 → r ≡ answers_of book.now) ⌝ }
+    ensures { number ≡ 0 → result ≡ answers_of book.now }
 {
     if number != 0 {
         return 0;
@@ -65,12 +65,12 @@ pub const TEXT: usize = 24576;
 // Prints the answer to a book in the new form, whose members have six places an atom as all that is printed has.
 fn answer_new(book: &[u8], text: &mut [u8]) -> usize
     requires { (form_of book.now ≡ new) × (text_size ≤ length text.old) }
-    ensures* { λ r. ⌜ Puts
-        (printed (result book.now output_size))
+    ensures { Puts
+        (printed (result_of book.now output_size))
         text.old
         0
-        r
-        text.new ⌝ }
+        result
+        text.new }
 {
     let mut output = [0u8; explore::OUTPUT];
     let r = explore::run(book, &mut output);
@@ -82,12 +82,12 @@ fn answer_new(book: &[u8], text: &mut [u8]) -> usize
 // Prints the answer to a book to the front of the text, and answers where it ends. A text that might be too short is
 // left as it is. What is printed does not tell the forms apart, so the book is printed as it is in the new form.
 pub fn answer(book: &[u8], text: &mut [u8]) -> usize
-    ensures* { λ r. ⌜ Puts
+    ensures { Puts
         (lines_of book.now (length text.old))
         text.old
         0
-        r
-        text.new ⌝ }
+        result
+        text.new }
 {
     if text.len() < TEXT {
         return 0;
