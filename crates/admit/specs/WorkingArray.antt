@@ -10,7 +10,7 @@ use Rattle.admit.specs.declared.Extent.{Extent}
 use Rattle.admit.specs.declared.Moved.{Moved}
 use Rattle.admit.specs.declared.Fate.{Fate}
 use Rattle.admit.specs.declared.Fate.TheVariants.{Dropped, Appended, Refused}
-use Rattle.exploration.specs.Run.{State, Test, Limits, Why, refusal_number, dropped, admitted, stopped, passed, admit}
+use Rattle.exploration.specs.Run.{State, Test, Limits, Why, refusal_number, dropped, admitted, stopped, admit}
 use Rattle.exploration.specs.Run.{remaining}
 use Rattle.exploration.specs.Union.{first_at, output_size}
 use Rattle.exploration.specs.Held.{held_bytes, held_total, held_from}

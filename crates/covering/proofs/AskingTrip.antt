@@ -16,7 +16,7 @@ use Rattle.covering.specs.Lists.{◌∈◌, gather}
 use Rattle.covering.specs.Term.{Term, Atom, Question}
 use Rattle.covering.specs.Asking.{Asking, answer_relation, answer_most, with_answer}
 use Rattle.covering.specs.Record.{desk, holding, size, atoms_at, are_atoms, are_places, are_answer_places, is_term}
-use Rattle.covering.specs.Record.{has_answer, answers, asking_of, is_record, places_bytes, atom_bytes}
+use Rattle.covering.specs.Record.{has_answer, answers, asking_of, places_bytes, atom_bytes}
 use Rattle.covering.specs.Record.{asking_bytes, TermFits, AskingFits, Fits, is_width, is_desk_record, desk_record}
 use Rattle.covering.specs.Record.{unused, byte_of}
 use Rattle.covering.proofs.Tests.{either, both, true→T, T→true, none≢some}

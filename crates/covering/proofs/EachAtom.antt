@@ -1,6 +1,6 @@
 -- A test of each of n atoms that stand one after the other in bytes, the first of them taken: one law for each way
 -- through a loop over them. Assumes nothing.
-use mathlib.Core.Path.{◌≡◌, refl}
+use mathlib.Core.Path.{◌≡◌}
 use mathlib.Core.Bool.{Bool, true, false}
 use mathlib.Core.List.{List}
 use Prim.Native.Nat.{ℕ, ◌+◌, ◌-◌, ◌<◌}

@@ -8,9 +8,9 @@ use native.Mathlib.Omega.{arith}
 use borrow.Author.Tests.{ltb-true, ltb-false, lt-ltb, le-ltb}
 use lib.Dec.{T, eqb, ltb, eqb→eq}
 use lib.ListN.{length, get_or, drop, replicate, length-replicate}
-use Rattle.covering.specs.Lists.{◌∈◌, gather}
-use Rattle.covering.specs.Term.{Term, Atom, Question}
-use Rattle.covering.specs.Record.{Layout, holding, stored, size, term_of, byte_of, args_at, atom_at, atoms_at, unused}
+use Rattle.covering.specs.Lists.{gather}
+use Rattle.covering.specs.Term.{Question}
+use Rattle.covering.specs.Record.{Layout, holding, stored, size, term_of, args_at, atom_at, unused}
 use Rattle.covering.specs.Record.{used_first, is_term, is_atom, places_bytes, atom_bytes, record_bytes}
 use Rattle.covering.specs.Buffer.{held_in, place_or}
 use Rattle.covering.specs.Put.{Puts}

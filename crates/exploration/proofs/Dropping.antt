@@ -12,7 +12,7 @@ use lib.Dec.{T, leb, leb→le, le→leb}
 use Rattle.covering.specs.Lists.{◌∈◌, head}
 use Rattle.covering.specs.Term.{Question}
 use Rattle.covering.specs.Rule.{Rule}
-use Rattle.covering.proofs.Tests.{decide, clash, not_of, cond_yes, cond_no}
+use Rattle.covering.proofs.Tests.{decide, clash, cond_yes, cond_no}
 use Rattle.unification.specs.Choice.{Ascending}
 use Rattle.unification.specs.Step.{listed, from}
 use Rattle.unification.proofs.Following.{from_head}

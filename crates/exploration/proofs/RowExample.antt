@@ -2,7 +2,7 @@
 -- first gives the row of c0, by its own answer record. Assumes nothing.
 use mathlib.Core.Path.{refl}
 use mathlib.Core.List.Memᴰ
-use mathlib.Core.List.{List, [], ◌∷◌}
+use mathlib.Core.List.{[], ◌∷◌}
 use Prim.Native.Nat.{ℕ}
 use Rattle.covering.specs.Term.{var, con, Question, on_atom}
 use Rattle.covering.specs.Asking.{joined}

@@ -1,7 +1,7 @@
 -- The examples that are not starred, as one list: 01's 10 and 11, the books of `Examples`, and for each order of the
 -- exploration that could be got wrong one that tells it from the right one.
-use Rattle.std.specs.Prelude.{List, [], ◌∷◌, ◌++◌, map, ℕ, ◌+◌, ◌*◌, length, replicate}
-use Rattle.covering.specs.Lists.{gather, numbers}
+use Rattle.std.specs.Prelude.{List, [], ◌∷◌, ◌++◌, map, ℕ, ◌+◌, replicate}
+use Rattle.covering.specs.Lists.{numbers}
 use Rattle.covering.specs.Term.{Term, Atom, var, con, Question}
 use Rattle.covering.specs.Asking.{Asking}
 use Rattle.covering.specs.Rule.{Rule}

@@ -26,9 +26,8 @@ use Rattle.reading.specs.Book.{rule_at, rules_from, rule_start, book_of}
 use Rattle.reading.proofs.Reading.{rules_none, rules_more, rules_left}
 use Rattle.lister.specs.declared.Found.{Found}
 use Rattle.explore.specs.declared.Taken.{Taken}
-use Rattle.lister.specs.Listing.{rule_of, RuleIn, QuestionIn, found_of, FoundIs}
-use Rattle.lister.specs.Counts.{most_choices}
-use Rattle.lister.proofs.FromBook.{rule_in_lem, rule_asked, found_within}
+use Rattle.lister.specs.Listing.{rule_of, RuleIn, FoundIs}
+use Rattle.lister.proofs.FromBook.{rule_in_lem, rule_asked}
 use Rattle.unification.specs.Step.{next}
 use Rattle.exploration.specs.Run.{apart}
 use Rattle.explore.specs.Taking.{or_later, next_among, TakenIs, NumberedRewriting}

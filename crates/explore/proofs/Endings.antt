@@ -2,8 +2,8 @@
 -- the new form, which means the same. Assumes nothing.
 use mathlib.Core.Path.{◌≡◌, sym, ◌∙◌, ap, ap₂, subst, refl}
 use mathlib.Core.List.Memᴰ
-use mathlib.Core.List.{List, [], ◌∷◌, ◌++◌, append_assoc}
-use Prim.Native.Nat.{ℕ, ◌+◌, ◌-◌, ◌≤◌}
+use mathlib.Core.List.{List, [], ◌∷◌, ◌++◌}
+use Prim.Native.Nat.{ℕ, ◌-◌, ◌≤◌}
 use native.Mathlib.Omega.{arith}
 use lib.ListN.{length, drop, length-append}
 use Rattle.covering.specs.Term.{Atom, Question}
@@ -14,13 +14,13 @@ use Rattle.covering.specs.Put.{Puts}
 use Rattle.reading.specs.Header.{atom_places}
 use Rattle.reading.specs.Book.{Book, book_of}
 use Rattle.reading.specs.Verdict.{SoundBook}
-use Rattle.exploration.specs.Run.{Outcome, run}
+use Rattle.exploration.specs.Run.{run}
 use Rattle.exploration.specs.Union.{first_at, output_size, total, union_bytes, members_bytes}
 use Rattle.exploration.specs.Held.{held_from}
 use Rattle.exploration.specs.Answer.{outcome_of, Answers}
 use Rattle.exploration.specs.Refusals.{answers_of}
 use Rattle.exploration.proofs.Returns.{returns_refused, returns_union}
-use Rattle.exploration.proofs.UnionBytes.{header_bytes, Written, written_is, union_is, union_length, total_is}
+use Rattle.exploration.proofs.UnionBytes.{Written, written_is, union_is, total_is}
 use Rattle.exploration.proofs.Members.{members_count}
 use Rattle.exploration.proofs.OfBook.{written_member, whole}
 use Rattle.writing.specs.Uncounted.{uncounted_bytes, four_words}

@@ -3,7 +3,7 @@
 use mathlib.Core.Path.{◌≡◌, refl, sym, ◌∙◌, ap, subst}
 use mathlib.Core.Bool.{Bool, true, false, true≢false, cond}
 use mathlib.Core.List.{List}
-use mathlib.Core.Option.{Option, none, some, some-injective}
+use mathlib.Core.Option.{Option, none, some}
 use Prim.Native.Nat.{ℕ, suc, ◌+◌, ◌*◌, ◌-◌, ◌/◌, ◌≤◌, ◌<◌}
 use native.Mathlib.Nat.{add-mul, div-add-mod', mod-lt, div-mul-le_self}
 use native.Mathlib.Omega.{arith}
@@ -19,9 +19,9 @@ use Rattle.covering.specs.Rule.{Rule}
 use Rattle.covering.proofs.Decides.{covers_decides}
 use Rattle.covering.proofs.Lists.{any_in, any_out}
 use Rattle.covering.proofs.Padded.{stored_question, stored_sound}
-use Rattle.covering.proofs.Tests.{none≢some, true→T}
+use Rattle.covering.proofs.Tests.{true→T}
 use Rattle.unification.specs.Classes.{unify}
-use Rattle.unification.specs.Choice.{Choice, count, number, pairing}
+use Rattle.unification.specs.Choice.{count, number, pairing}
 use Rattle.unification.specs.Step.{move, rewriting, listed}
 use Rattle.unification.proofs.Prefix.{count_some, prefix_covered}
 use Rattle.lister.specs.declared.Settled.{Settled}

@@ -14,7 +14,7 @@ use Rattle.covering.proofs.Tests.{one_more}
 use Rattle.reading.specs.Word.{byte}
 use Rattle.reading.specs.Header.{old, header_size, relations, rules, atoms, question_at, atom_places, atom_size}
 use Rattle.reading.specs.Header.{answer_records}
-use Rattle.reading.specs.Book.{body_count, head_count, body_at, rule_end, rules_start, rule_start}
+use Rattle.reading.specs.Book.{body_count, head_count, body_at, rule_end, rule_start}
 use Rattle.reading.specs.Verdict.{told, SoundBook}
 use Rattle.reading.specs.Copy.{wide_places, term_old, late_from, late_in_atoms, late_in_rules, no_old_form}
 use Rattle.reading.proofs.SoundBook.{sound_header, sound_rule}

@@ -1,19 +1,19 @@
 -- A book's rules put one after the other: each of them can be, those passed are. Assumes nothing.
-use mathlib.Core.Path.{◌≡◌, refl, sym, ◌∙◌, ap, ap₂, subst}
+use mathlib.Core.Path.{◌≡◌, sym, ◌∙◌, ap, ap₂, subst}
 use mathlib.Core.List.{List, [], ◌∷◌, ◌++◌, append_assoc, append-nil}
-use Prim.Native.Nat.{ℕ, zero, suc, ◌+◌, ◌*◌, ◌-◌, ◌≤◌, ◌<◌}
+use Prim.Native.Nat.{ℕ, ◌+◌, ◌*◌, ◌-◌, ◌≤◌, ◌<◌}
 use native.Mathlib.Omega.{arith}
-use lib.ListN.{length, get_or, length-append}
+use lib.ListN.{length, length-append}
 use Rattle.covering.specs.Lists.{◌∈◌, gather}
 use Rattle.covering.specs.Term.{Atom, Question}
-use Rattle.covering.specs.Record.{holding, size, atoms_at, atom_bytes}
+use Rattle.covering.specs.Record.{holding, atoms_at, atom_bytes}
 use Rattle.covering.specs.Rule.{Rule}
 use Rattle.covering.specs.Buffer.{AtomsIn}
 use Rattle.covering.specs.Put.{Puts}
 use Rattle.covering.proofs.Lengths.{atoms_long, count_atoms}
 use Rattle.covering.proofs.Putting.{put_none, put_as, then, kept}
-use Rattle.reading.specs.Header.{BookForm, form_of, header_of, rules, question_at, atom_places, atom_size}
-use Rattle.reading.specs.Book.{Book, body_count, head_count, body_at, head_at, rule_end, rule_at, rules_from, rules_start}
+use Rattle.reading.specs.Header.{BookForm, rules, atom_places}
+use Rattle.reading.specs.Book.{Book, body_count, head_count, head_at, rule_end, rule_at, rules_from, rules_start}
 use Rattle.reading.specs.Book.{rule_start, book_of}
 use Rattle.reading.specs.Verdict.{SoundBook}
 use Rattle.reading.specs.Written.{atoms_bytes, rule_bytes, rules_bytes, BookAtom, BookRule, BookFits}

@@ -1,12 +1,11 @@
 -- A whole book put: its relations, its rules and its question one after the other, and the header before them once it
 -- is known where they end. Assumes nothing.
-use mathlib.Core.Path.{◌≡◌, refl, sym, ◌∙◌, ap, ap₂, subst}
+use mathlib.Core.Path.{◌≡◌, sym, ◌∙◌, ap, ap₂, subst}
 use mathlib.Core.Logic.{◌⊎◌, inl, inr}
 use mathlib.Core.List.Memᴰ
-use mathlib.Core.List.{List, [], ◌∷◌, ◌++◌}
+use mathlib.Core.List.{List, [], ◌∷◌}
 use Prim.Native.Nat.{ℕ, ◌+◌, ◌*◌, ◌/◌, ◌≤◌, ◌<◌}
 use native.Mathlib.Omega.{arith}
-use lib.Dec.{T}
 use lib.ListN.{length, get_or, take, drop}
 use Rattle.covering.specs.Lists.{◌∈◌, gather}
 use Rattle.covering.specs.Term.{Term, Atom, Question}
@@ -18,12 +17,12 @@ use Rattle.covering.proofs.Lengths.{atoms_long}
 use Rattle.covering.proofs.Putting.{put_as, then, first, kept}
 use Rattle.reading.specs.declared.Header.{Header}
 use Rattle.reading.specs.Word.{word_bytes}
-use Rattle.reading.specs.Header.{BookForm, old, new, form_for, header_of, header_size, relations, atoms, question_at}
+use Rattle.reading.specs.Header.{BookForm, old, new, form_for, header_of, atoms, question_at}
 use Rattle.reading.specs.Header.{atom_places, answer_records}
 use Rattle.reading.specs.Book.{Book, book_of}
 use Rattle.reading.specs.Verdict.{SoundBook}
 use Rattle.reading.specs.Written.{rules_bytes, question_bytes, rules_offset, question_offset, total_length, tenth_words}
-use Rattle.reading.specs.Written.{header_words, header_bytes, contents_bytes, book_bytes, BookFits}
+use Rattle.reading.specs.Written.{header_words, header_bytes, contents_bytes, book_bytes}
 use Rattle.reading.proofs.BookFit.{book_constants, relation_count, rule_count, atom_count}
 use Rattle.reading.proofs.Fits.{joined_count}
 use Rattle.reading.proofs.Forms.{for_cases, for_known}

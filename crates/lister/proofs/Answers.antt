@@ -15,7 +15,7 @@ use Rattle.covering.specs.Buffer.{held_in, record_room}
 use Rattle.covering.proofs.Lengths.{count_atoms}
 use Rattle.book.specs.declared.Parts.{Parts}
 use Rattle.unification.specs.Choice.{count, atom_pairs, to_head}
-use Rattle.unification.specs.Step.{up, move, valid, judge}
+use Rattle.unification.specs.Step.{up, move, judge}
 use Rattle.unify.specs.Table.{tabled}
 use Rattle.unify.specs.InBytes.{rule_in, classes_of, merged}
 use Rattle.unify.proofs.TableBytes.{merged_yes, merged_no}

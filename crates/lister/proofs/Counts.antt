@@ -1,6 +1,5 @@
 -- Each entry of the table of choice counts is the count that it stands for, by one test that is computed at every entry.
 -- Assumes nothing.
-use native.Mathlib.Omega.{arith}
 use mathlib.Core.Path.{◌≡◌}
 use mathlib.Core.Bool.{Bool}
 use mathlib.Core.List.{[]}

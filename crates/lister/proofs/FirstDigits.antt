@@ -13,8 +13,8 @@ use lib.Dec.{leb}
 use lib.ListN.{length, get_or, take, drop, length-append}
 use lib.Seq.{take-suc, drop-cons, take-add, length-take-le}
 use Rattle.covering.specs.Lists.{◌∈◌, bind}
-use Rattle.covering.specs.Term.{Term, var, con, Atom, Question, Sub, terms}
-use Rattle.covering.specs.Record.{size, stored, atom_at, atoms_at, question_of, AtomFits, TermFits}
+use Rattle.covering.specs.Term.{Term, var, con, Atom, Question, Sub}
+use Rattle.covering.specs.Record.{stored, atom_at, atoms_at, question_of, AtomFits, TermFits}
 use Rattle.covering.specs.Buffer.{held_in, record_room}
 use Rattle.covering.specs.Rule.{Rule}
 use Rattle.covering.proofs.Lengths.{count_atoms, question_count}

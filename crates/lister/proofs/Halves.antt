@@ -11,7 +11,7 @@ use lib.Dec.{eqb, ltb}
 use lib.ListN.{length, get_or, set, length-set}
 use lib.Seq.{get_or-set_same, get_or-set_other}
 use Rattle.covering.specs.Lists.{◌∈◌}
-use Rattle.covering.specs.Record.{stored, size, term_of, TermFits}
+use Rattle.covering.specs.Record.{stored, term_of, TermFits}
 use Rattle.covering.proofs.Tests.{either}
 use Rattle.unify.specs.InBytes.{classes_of}
 use Rattle.lister.specs.Listing.{ClassesFit, UpperHalf}

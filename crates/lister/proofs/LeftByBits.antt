@@ -9,10 +9,10 @@ use native.Mathlib.Nat.{mul-add-div_right, mul-add-mod_self_right, mul-div_cance
 use native.Mathlib.Omega.{arith}
 use lib.Dec.{eqb}
 use lib.ListN.{get_or}
-use Rattle.covering.specs.Record.{stored, atom_at, question_of, AtomFits}
+use Rattle.covering.specs.Record.{stored, atom_at, question_of}
 use Rattle.covering.specs.Buffer.{held_in, AtomIn, AtomsIn, RoomLeft, record_room}
 use Rattle.unify.specs.InBytes.{in_book}
-use Rattle.lister.specs.Leaving.{left_by, any_sent}
+use Rattle.lister.specs.Leaving.{left_by}
 use Rattle.lister.specs.Listing.{QuestionIn, LeftIn}
 use Rattle.lister.proofs.RewritingBytes.{rest_in, first_fits, first_atom_in}
 use Rattle.lister.proofs.LeftAtoms.{left_none, left_put, left_room}

@@ -16,7 +16,6 @@ use Rattle.covering.proofs.Places.{atoms_step, are_atoms_lem}
 use Rattle.book.specs.declared.Parts.{Parts}
 use Rattle.unification.specs.Choice.{left, to_head, pairing, atom_pairs}
 use Rattle.unification.specs.Step.{up, move}
-use Rattle.unification.proofs.Choices.{left_in}
 use Rattle.unify.specs.InBytes.{in_book, classes_of, merged}
 use Rattle.unify.specs.Table.{unify_table}
 use Rattle.unify.proofs.TableBytes.{merged_yes}

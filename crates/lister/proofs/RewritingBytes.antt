@@ -10,7 +10,7 @@ use lib.Dec.{T}
 use lib.ListN.{length, get_or, length-map, length-append}
 use Rattle.covering.specs.Lists.{◌∈◌}
 use Rattle.covering.specs.Term.{Term, var, con, Atom, Question, Sub, on_term, on_atom, on_question, comp}
-use Rattle.covering.specs.Record.{stored, size, term_of, atom_at, atoms_at, question_of, are_atoms, TermFits, AtomFits}
+use Rattle.covering.specs.Record.{stored, term_of, atom_at, atoms_at, question_of, are_atoms, TermFits, AtomFits}
 use Rattle.covering.specs.Record.{Fits}
 use Rattle.covering.specs.Buffer.{held_in, AtomIn, AtomsIn, RoomLeft, record_room}
 use Rattle.forming.specs.Building.{sub_of}

@@ -2,7 +2,7 @@
 -- choice invalid. Until then more is put together, which keeps it stuck. Over classes, then over a table that has all
 -- variables in play (`table_stuck`), and over bytes, as `build` is asked (`asked_hopeless`). Assumes nothing.
 use mathlib.Core.Path.{◌≡◌, refl, sym, ◌∙◌, ap, subst}
-use mathlib.Core.Bool.{Bool, true, false, not, ◌||◌, ◌&&◌}
+use mathlib.Core.Bool.{Bool, true, false, not}
 use mathlib.Core.Logic.{◌⊎◌, inl, inr}
 use mathlib.Core.List.Memᴰ
 use mathlib.Core.List.{List, [], ◌∷◌, ◌++◌}
@@ -12,7 +12,7 @@ use native.Mathlib.Omega.{arith}
 use lib.Dec.{T}
 use lib.ListN.{length}
 use Rattle.covering.specs.Lists.{◌∈◌, bind, numbers}
-use Rattle.covering.specs.Term.{Term, var, con, Atom, Question, Sub, on_term, terms, eq_term, is_var, Below}
+use Rattle.covering.specs.Term.{Term, con, Atom, Question, Sub, on_term, terms, eq_term, is_var, Below}
 use Rattle.covering.specs.Record.{stored, atoms_at, question_of}
 use Rattle.covering.specs.Rule.{Rule}
 use Rattle.covering.proofs.Lists.{all_out}
@@ -26,14 +26,14 @@ use Rattle.unification.proofs.Collected.{first_of_same, first_of_none}
 use Rattle.unification.proofs.Pairs.{head_of}
 use Rattle.book.specs.declared.Parts.{Parts}
 use Rattle.unify.specs.InBytes.{classes_of}
-use Rattle.unify.specs.Stuck.{TiedTo, Tied, Barred, Stuck}
+use Rattle.unify.specs.Stuck.{TiedTo, Barred, Stuck}
 use Rattle.unify.specs.Table.{Table, tabled}
 use Rattle.lister.specs.Build.{Builder, more, first, first_by_digit, builder, table_builder}
 use Rattle.lister.proofs.Build.{first_digits}
 use Rattle.lister.specs.Hopeless.{Hopeless}
 use Rattle.lister.specs.Listing.{rule_of, Asks}
 use Rattle.lister.proofs.Pruned.{invalid_stays, asked_invalid, low_body, low_head, low_rest, low_left, whole}
-use Rattle.lister.proofs.Table.{Agree, table_same}
+use Rattle.lister.proofs.Table.{table_same}
 
 -- the existential variable is not alone: u, which is guarded, is in its class too
 tied_invalid : (τ : Sub) (r : Rule) (L : Question) (t u : Term) → TiedTo τ r t u → u ∈ guarded L r

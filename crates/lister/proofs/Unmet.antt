@@ -10,7 +10,7 @@ use borrow.Author.Tests.{eq-eqb, ne_eqb}
 use lib.Dec.{T, eqb, eqb_refl}
 use lib.ListN.{length, get_or, drop, take, take-append-drop}
 use lib.Seq.{drop-cons, drop-length}
-use Rattle.covering.specs.Lists.{◌∈◌, keep, any}
+use Rattle.covering.specs.Lists.{◌∈◌, any}
 use Rattle.covering.specs.Term.{Atom, Question}
 use Rattle.covering.specs.Record.{stored, atom_at, atoms_at, question_of, AtomFits}
 use Rattle.covering.specs.Buffer.{held_in, AtomIn, record_room}

@@ -6,7 +6,7 @@ use mathlib.Core.Logic.{◌⊎◌, inl, inr}
 use mathlib.Core.List.Memᴰ
 use mathlib.Core.List.{List, ◌++◌}
 use mathlib.Core.Option.{Option, none, some, some-injective}
-use Prim.Native.Nat.{ℕ, ◌+◌, ◌-◌, ◌≤◌, ◌<◌}
+use Prim.Native.Nat.{ℕ, ◌≤◌, ◌<◌}
 use native.Mathlib.Omega.{arith}
 use lib.Dec.{leb, leb→le, le→leb}
 use lib.ListN.{length, get_or, drop}
@@ -20,9 +20,8 @@ use Rattle.covering.proofs.Lists.{map_same}
 use Rattle.covering.proofs.Terms.{on_atom_same, terms_in, terms_append}
 use Rattle.covering.proofs.Tests.{none≢some, not_of, cond_yes, cond_no}
 use Rattle.book.specs.declared.Parts.{Parts}
-use Rattle.unification.specs.Choice.{Choice, number, choices, left}
+use Rattle.unification.specs.Choice.{Choice, number, choices}
 use Rattle.unification.specs.Step.{move, rewriting}
-use Rattle.unification.proofs.Choices.{left_in}
 use Rattle.unification.proofs.Moved.{moved_below}
 use Rattle.unify.specs.InBytes.{rule_in, classes_of}
 use Rattle.unify.specs.Table.{Table, tabled}

@@ -14,7 +14,7 @@ use Rattle.covering.specs.Record.{holding, atom_at, atoms_at, TermFits, AtomFits
 use Rattle.covering.specs.Rule.{Rule}
 use Rattle.covering.proofs.Places.{relation_at, atoms_each}
 use Rattle.covering.proofs.Lengths.{count_atoms}
-use Rattle.reading.specs.Header.{old, new, form_of, header_size, relations, constants, rules, atoms, allowed}
+use Rattle.reading.specs.Header.{old, new, form_of, header_size, relations, constants, rules, atoms}
 use Rattle.reading.specs.Header.{question_atoms_at, atom_places, atom_size, body_range, head_range, places_range}
 use Rattle.reading.specs.Book.{Book, body_count, head_count, body_at, head_at, rule_at, rules_from, rule_start}
 use Rattle.reading.specs.Book.{rules_start}

@@ -14,7 +14,7 @@ use Rattle.covering.specs.Asking.{answer_atom, with_answer}
 use Rattle.covering.specs.Rule.{Rule}
 use Rattle.covering.proofs.Tests.{le_or_lt}
 use Rattle.covering.proofs.Terms.{terms_in, terms_out}
-use Rattle.reading.specs.Header.{BookForm, old, rules, atoms}
+use Rattle.reading.specs.Header.{BookForm, old}
 use Rattle.reading.specs.Book.{Book}
 use Rattle.reading.specs.Written.{BookTerm, BookAtom, BookRule, BookFits}
 use Rattle.reading.specs.Copy.{NeedsNew, relation, in_body, in_head, in_question}

@@ -12,7 +12,7 @@ use Rattle.reading.specs.Header.{new}
 use Rattle.reading.specs.Book.{book_of}
 use Rattle.reading.specs.Verdict.{verdict, SoundBook}
 use Rattle.reading.specs.Written.{book_bytes}
-use Rattle.reading.specs.Copy.{Copied, copied, refused, copy_room, to_new, copy_answer, copy_written, CopiesNew}
+use Rattle.reading.specs.Copy.{Copied, copied, copy_room, to_new, copy_answer, copy_written, CopiesNew}
 use Rattle.reading.proofs.CopyCases.{to_new_own, to_new_sound}
 use Rattle.reading.proofs.Copies.{IsCopy, new_copy}
 

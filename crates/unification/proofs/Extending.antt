@@ -12,7 +12,7 @@ use native.Mathlib.Omega.{arith}
 use lib.ListN.{length}
 use Rattle.covering.specs.Covers.{Covers}
 use Rattle.covering.specs.Lists.{◌∈◌, bind}
-use Rattle.covering.specs.Term.{Term, Atom, Question, Sub, var, on_term, on_atom, comp}
+use Rattle.covering.specs.Term.{Atom, Question, Sub, var, on_term, on_atom, comp}
 use Rattle.covering.specs.Rule.{Rule}
 use Rattle.covering.proofs.Form.{form_equivalent}
 use Rattle.covering.proofs.Preorder.{covers_trans}

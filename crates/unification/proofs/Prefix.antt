@@ -2,7 +2,7 @@
 -- where w is the number of the p digits and m digits follow. So what covers the left atoms of the p digits, atoms after
 -- them that no head atom can meet, and the body, under their classes, covers every rewriting that is listed with such a
 -- number (`prefix_covered`). Assumes nothing.
-use mathlib.Core.Path.{◌≡◌, refl, sym, ◌∙◌, ap, ap₂, subst}
+use mathlib.Core.Path.{◌≡◌, refl, sym, ◌∙◌, ap, subst}
 use mathlib.Core.List.Memᴰ
 use mathlib.Core.List.{List, [], ◌∷◌, ◌++◌, map}
 use mathlib.Core.Option.{some, some-injective}

@@ -1,15 +1,15 @@
 -- A rule is tried only where it can be: if no atom of the question has the relation of a head atom, no choice is valid, and
 -- nothing is listed (`none_listed`). An atom that has the relation of none is left by every valid choice (`unmet_left`).
 -- Assumes nothing.
-use mathlib.Core.Path.{◌≡◌, refl, sym, ◌∙◌, ap, subst}
+use mathlib.Core.Path.{◌≡◌, refl, sym, ◌∙◌, ap}
 use mathlib.Core.List.Memᴰ
-use mathlib.Core.List.{List, [], ◌∷◌, ◌++◌, map}
+use mathlib.Core.List.{List, [], ◌∷◌, map}
 use mathlib.Core.Option.{Option, none, some}
 use Prim.Native.Nat.{ℕ, zero, suc}
 use native.Mathlib.Omega.{arith}
 use lib.Dec.{T}
 use lib.ListN.{length}
-use Rattle.covering.specs.Lists.{◌∈◌, keep, bind, head, collect, gather, numbers}
+use Rattle.covering.specs.Lists.{◌∈◌, keep, bind, head, collect, numbers}
 use Rattle.covering.specs.Term.{var, con, Atom, Question, Sub, on_atom}
 use Rattle.covering.specs.Rule.{Rule}
 use Rattle.covering.proofs.Terms.{con_inj}

@@ -2,30 +2,27 @@
 -- and of two atoms one at a time, head atoms and question atoms one at a time. Each law says what a loop has yet to look at.
 -- Assumes nothing.
 use mathlib.Core.Path.{◌≡◌, refl, sym, ◌∙◌, ap, ap₂, subst}
-use mathlib.Core.Bool.{Bool, true, false, not, ◌&&◌}
-use mathlib.Core.Logic.{inl, inr}
+use mathlib.Core.Bool.{true, false, not, ◌&&◌}
 use mathlib.Core.List.Memᴰ
-use mathlib.Core.List.{List, [], ◌∷◌, map}
+use mathlib.Core.List.{List, ◌∷◌, map}
 use Prim.Native.Nat.{ℕ, ◌+◌, ◌-◌, ◌≤◌, ◌<◌}
 use native.Mathlib.Omega.{arith}
-use lib.Dec.{T, eqb, eqb→eq}
+use lib.Dec.{T, eqb→eq}
 use lib.ListN.{get_or}
 use Rattle.covering.specs.Lists.{◌∈◌}
-use Rattle.covering.specs.Term.{Term, Atom, Sub, on_term, on_atom, on_question, terms, eq_term, is_var}
+use Rattle.covering.specs.Term.{Term, Atom, on_term, on_atom, on_question, terms, eq_term, is_var}
 use Rattle.covering.specs.Record.{stored, term_of, args_at, atom_at, atoms_at}
-use Rattle.covering.specs.Rule.{Rule}
 use Rattle.covering.proofs.Bytes.{term_same, args_more}
 use Rattle.covering.proofs.Lists.{any_out}
-use Rattle.covering.proofs.Places.{relation_at, atoms_none, atoms_more}
+use Rattle.covering.proofs.Places.{atoms_none, atoms_more}
 use Rattle.covering.proofs.Terms.{eq_term→eq, eq→eq_term}
 use Rattle.covering.proofs.Tests.{true→T}
-use Rattle.unification.specs.Classes.{Pair}
 use Rattle.unification.specs.Choice.{place_pairs}
-use Rattle.unification.specs.Step.{up, move, mem_term, is_unknown}
+use Rattle.unification.specs.Step.{up, move, mem_term}
 use Rattle.unify.specs.Table.{look, tabled}
 use Rattle.unify.specs.InBytes.{rule_in, classes_of}
-use Rattle.unify.specs.Stuck.{TiedTo, Tied, Barred, Stuck}
-use Rattle.unify.proofs.ValidTests.{up_variable, up_var, up_mem, is_var_lem, tabled_look}
+use Rattle.unify.specs.Stuck.{TiedTo}
+use Rattle.unify.proofs.ValidTests.{up_variable, up_mem, is_var_lem, tabled_look}
 
 mem_in : (t : Term) (ts : List Term) → mem_term t ts ≡ true → t ∈ ts
 mem_in t ts e =

@@ -8,17 +8,15 @@ use native.Mathlib.Nat.{mul-le-mul_left}
 use native.Mathlib.Omega.{arith}
 use lib.Dec.{T}
 use lib.ListN.{length, get_or, drop, length-append, length-drop}
-use Rattle.covering.specs.Lists.{◌∈◌, gather}
+use Rattle.covering.specs.Lists.{◌∈◌}
 use Rattle.covering.specs.Term.{Atom, Question}
-use Rattle.covering.specs.Record.{holding, stored, new_places, size, width, atoms_at, are_atoms, question_of, atom_bytes}
+use Rattle.covering.specs.Record.{holding, stored, new_places, size, width, atoms_at, are_atoms, question_of}
 use Rattle.covering.specs.Record.{record_bytes, SoundRecord}
 use Rattle.covering.specs.Buffer.{AtomsIn}
 use Rattle.covering.specs.Put.{Puts}
 use Rattle.covering.proofs.Lengths.{atoms_long, question_count}
-use Rattle.covering.proofs.Places.{question_at_lem}
 use Rattle.covering.proofs.Copied.{are_copied}
 use Rattle.covering.proofs.Putting.{put_none, put_as, then, kept}
-use Rattle.reading.specs.Word.{byte}
 use Rattle.exploration.specs.Union.{first_at}
 use Rattle.exploration.specs.Held.{held_bytes, held_from, held_end, Standing}
 use Rattle.exploration.proofs.HeldBytes.{held_last}

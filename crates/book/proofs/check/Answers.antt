@@ -1,9 +1,8 @@
 -- Each test stands for its refusal, in the order of the numbers. Assumes nothing.
-use borrow.Author.Rules.{rules}
 use mathlib.Core.Path.{◌≡◌, sym, ◌∙◌, ap}
 use Rattle.reading.specs.declared.Header.{Header}
 use mathlib.Core.Bool.{true, false}
-use borrow.Author.Tests.{ltb-true, ltb-false, not-true, not-false}
+use borrow.Author.Tests.{ltb-true, ltb-false}
 use Prim.Native.Nat.{◌≤◌}
 use Rattle.covering.proofs.Tests.{true→T}
 use lib.ListN.{length}

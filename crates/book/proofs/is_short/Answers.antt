@@ -1,5 +1,4 @@
 -- Either header has 18 bytes at least, and the relations' offset is among them. Assumes nothing.
-use borrow.Author.Rules.{rules}
 use native.Mathlib.Omega.{arith}
 use borrow.Author.Tests.{lt-ltb}
 use mathlib.Core.Path.{sym, ◌∙◌, ap}

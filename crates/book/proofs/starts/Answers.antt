@@ -2,8 +2,8 @@
 use borrow.Author.Rules.{rules as steps}
 use native.Mathlib.Omega.{arith}
 use mathlib.Core.Path.{◌≡◌, refl, sym, ◌∙◌, ap, subst}
-use Prim.Native.Nat.{ℕ, ◌+◌, ◌*◌, ◌-◌, ◌≤◌, ◌<◌}
-use lib.ListN.{length, get_or, length-set}
+use Prim.Native.Nat.{◌+◌, ◌*◌, ◌≤◌, ◌<◌}
+use lib.ListN.{length, length-set}
 use Rattle.reading.specs.declared.Header.{Header}
 use Rattle.reading.specs.Header.{rules}
 use Rattle.reading.specs.Book.{body_count, head_count, rule_end, rules_start, rule_start}

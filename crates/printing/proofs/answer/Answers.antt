@@ -1,15 +1,10 @@
 -- `printing::answer` meets its contract: the text is too short, or the book has no copy in the new form and its refusal is
 -- printed, or its copy is run and the answer printed.
-use borrow.Author.Rules.{rules}
 use native.Mathlib.Omega.{arith}
-use mathlib.Core.Path.{◌≡◌, sym, ap₂, subst}
-use mathlib.Core.List.{List}
+use mathlib.Core.Path.{sym, ap₂}
 use Prim.Native.Nat.{ℕ}
-use lib.ListN.{length}
 use lib.Seq.{length-take-le}
-use Rattle.covering.specs.Put.{Puts}
 use Rattle.covering.proofs.Putting.{put_as}
-use Rattle.reading.specs.Verdict.{verdict}
 use Rattle.reading.proofs.NewCopy.{copy_given, copy_refused}
 use Rattle.exploration.specs.Answer.{refusal}
 use Rattle.printing.specs.Printed.{printed}

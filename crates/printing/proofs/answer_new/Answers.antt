@@ -1,5 +1,4 @@
 -- `printing::answer_new` meets its contract: the book is run in an output of 4,104 bytes and its answer printed.
-use borrow.Author.Rules.{rules}
 use native.Mathlib.Omega.{arith}
 use mathlib.Core.Path.{refl}
 use Rattle.printing.proofs.Answered.{complete_sound, printable, answered}

@@ -1,5 +1,4 @@
 -- `printing::answer_records` meets its contract.
-use borrow.Author.Rules.{rules}
 use native.Mathlib.Omega.{arith}
 use Rattle.printing.proofs.answer_records.Goals as goal
 

@@ -1,5 +1,4 @@
 -- `printing::print` meets its contract: a refusal's line, or a union's first line and its members.
-use borrow.Author.Rules.{rules}
 use native.Mathlib.Omega.{arith}
 use mathlib.Core.Path.{ap}
 use lib.ListN.{length}

@@ -1,5 +1,4 @@
 -- `printing::word` meets its contract: two bytes, the low one first.
-use borrow.Author.Rules.{rules}
 use native.Mathlib.Omega.{arith}
 use mathlib.Core.Path.{sym}
 use Prim.Native.Nat.{◌+◌}

@@ -1,5 +1,4 @@
 -- `admit::admitting::admit` meets its contract: at each return, what became of the rewriting.
-use borrow.Author.Rules.{rules}
 use native.Mathlib.Omega.{arith}
 use mathlib.Core.Path.{◌≡◌, refl}
 use Prim.Native.Nat.{ℕ, ◌+◌, ◌≤◌}
@@ -48,22 +47,20 @@ member_covering-requires c =
     (c.requires.0.few, stands_all c.requires.0, c.requires.1, refl, c.requires.3, c.relations-there.ensures)
 
 pub returns-then-member_covering-filled : goal.returns-then-member_covering-filled
-returns-then-member_covering-filled c =
-    (
-      fate_dropped c.args.answers c.requires.2 c.requires.0 _ _ c.member_covering.ensures.0 c.if-member_covering-filled.true,
-      c.requires.3,
-    )
+returns-then-member_covering-filled c = (
+  fate_dropped c.args.answers c.requires.2 c.requires.0 _ _ c.member_covering.ensures.0 c.if-member_covering-filled.true,
+  c.requires.3,
+)
 
 pub overflow_add-answers : goal.overflow_add-answers
 overflow_add-answers c = omega (arith, c.requires.2)
 
 pub returns-then-answers-rewriting : goal.returns-then-answers-rewriting
-returns-then-answers-rewriting c =
-    (
-      fate_long c.args.answers c.requires.2 c.requires.0 _ _ (first c.before.before.before.before) c.if-member_covering-filled.false
-          (omega (arith, question_count stored c.args.rewriting.now, c.if-answers-rewriting.true)),
-      tt,
-    )
+returns-then-answers-rewriting c = (
+  fate_long c.args.answers c.requires.2 c.requires.0 _ _ (first c.before.before.before.before) c.if-member_covering-filled.false
+      (omega (arith, question_count stored c.args.rewriting.now, c.if-answers-rewriting.true)),
+  tt,
+)
 
 pub returns-then-count-ge-ROOM : goal.returns-then-count-ge-ROOM
 returns-then-count-ge-ROOM c =

@@ -1,6 +1,5 @@
 -- `admit::removing::covers_member` meets its contract: where the rewriting's relations are not among the member's it does
 -- not cover it.
-use borrow.Author.Rules.{rules}
 use mathlib.Core.Path.{sym, ◌∙◌}
 use Rattle.covering.proofs.Tests.{not_true}
 use Rattle.records.proofs.Among.{not_part}

@@ -1,5 +1,4 @@
 -- `admit::removing::remove_covered` meets its contract: first the explored members, then the others; then their sets.
-use borrow.Author.Rules.{rules}
 use native.Mathlib.Omega.{arith}
 use Rattle.admit.proofs.Array.{stands_all, parts_stand, others_stand, explored_sets, others_sets}
 use Rattle.admit.proofs.Array.{removed_working, removed_state, removed_few, none_removed}

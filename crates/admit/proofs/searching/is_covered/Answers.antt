@@ -1,6 +1,5 @@
 -- `admit::searching::is_covered` meets its contract: a member covers the question where the search ends before the last.
-use borrow.Author.Rules.{rules}
-use mathlib.Core.Path.{◌≡◌, sym, ap₂, ◌∙◌}
+use mathlib.Core.Path.{sym, ap₂, ◌∙◌}
 use lib.Dec.{ltb}
 use Rattle.covering.specs.Search.{covers}
 use Rattle.covering.specs.Record.{stored, question_of}

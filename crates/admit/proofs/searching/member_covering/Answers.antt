@@ -6,15 +6,14 @@ use borrow.Author.Rules.{rules}
 use native.Mathlib.Omega.{arith}
 use native.Mathlib.Nat.{sub-zero, zero-add}
 use mathlib.Core.Path.{◌≡◌, refl, sym, ap, ◌∙◌, subst}
-use Prim.Native.Nat.{ℕ, suc, ◌+◌, ◌*◌, ◌-◌, ◌≤◌}
+use Prim.Native.Nat.{ℕ, suc, ◌+◌, ◌-◌, ◌≤◌}
 use mathlib.Core.Bool.{false}
 use mathlib.Core.List.{List}
-use lib.ListN.{length, get_or, drop, replicate}
-use Rattle.covering.specs.Lists.{is_some, first_of}
-use Rattle.covering.specs.Search.{nowhere, first_map, covers}
+use lib.ListN.{length, get_or, drop}
+use Rattle.covering.specs.Lists.{is_some}
+use Rattle.covering.specs.Search.{covers}
 use Rattle.covering.specs.FirstMap.{map_or}
-use Rattle.cover.specs.Candidates.{found_on}
-use Rattle.covering.specs.Record.{stored, atoms_at, question_of, width, SoundRecord}
+use Rattle.covering.specs.Record.{stored, question_of, width, SoundRecord}
 use Rattle.covering.proofs.Tests.{not_true}
 use Rattle.records.specs.Relations.{relations_of}
 use Rattle.records.proofs.Among.{not_part}

@@ -2,33 +2,16 @@
 -- first covering member is so many members after the one at hand as it is among those left, by the same map; the inner
 -- one's: the first map of the member at hand is that of the first of the candidates left that serves. The measures are
 -- the numbers of members and of candidates left.
-use borrow.Author.Rules.{rules}
-use native.Mathlib.Omega.{arith}
-use native.Mathlib.Nat.{sub-zero, zero-add}
-use mathlib.Core.Path.{◌≡◌, refl, sym, ap, ◌∙◌, subst}
-use Prim.Native.Nat.{ℕ, suc, ◌+◌, ◌*◌, ◌-◌, ◌≤◌}
-use mathlib.Core.Bool.{false}
-use mathlib.Core.List.{List}
-use lib.ListN.{length, get_or, drop, replicate}
-use Rattle.covering.specs.Lists.{is_some, first_of}
+use mathlib.Core.Path.{◌≡◌}
+use Prim.Native.Nat.{◌+◌, ◌*◌, ◌-◌, ◌≤◌}
+use lib.ListN.{drop, replicate}
+use Rattle.covering.specs.Lists.{first_of}
 use Rattle.covering.specs.Search.{nowhere, first_map, covers}
-use Rattle.covering.specs.FirstMap.{map_or}
 use Rattle.cover.specs.Candidates.{found_on}
-use Rattle.covering.specs.Record.{stored, atoms_at, question_of, width, SoundRecord}
-use Rattle.covering.proofs.Tests.{not_true}
-use Rattle.records.specs.Relations.{relations_of}
-use Rattle.records.proofs.Among.{not_part}
-use Rattle.reading.specs.Word.{byte}
+use Rattle.covering.specs.Record.{stored, atoms_at, question_of}
 use Rattle.exploration.specs.Held.{held_from, Standing}
 use Rattle.admit.specs.WorkingArray.{before_covering, covered_by}
 use Rattle.admit.specs.Sets.{SetsFrom}
-use Rattle.admit.proofs.Beside.{sets_here}
-use Rattle.admit.proofs.Finding.{maps_end, maps_hit, maps_miss, map_one, map_none, first_end, first_hit}
-use Rattle.admit.proofs.Finding.{first_miss, by_end, by_hit, by_miss, on_nowhere, found_here, covers_is}
-use Rattle.cover.proofs.Maps.{searched_map, nowhere_map}
-use Rattle.exploration.proofs.Members.{count_from}
-use Rattle.exploration.proofs.Standing.{Here, stands}
-use Rattle.covering.proofs.Slices.{part_is}
 use Rattle.admit.proofs.searching.member_covering.Given as goal
 
 abbrev pub invariant-atoms : goal.invariant-atoms

@@ -1,17 +1,16 @@
 -- `admit::sets::renew` meets its contract. Where none was removed nothing is done. The loop's invariant: the sets of the
 -- members passed are made, and the next one stands where they end. The measure is the number of members left.
-use borrow.Author.Rules.{rules}
 use native.Mathlib.Omega.{arith}
 use native.Mathlib.Nat.{sub-zero}
 use mathlib.Core.Path.{◌≡◌, sym, ap, ◌∙◌, subst}
 use mathlib.Core.List.{List}
-use Prim.Native.Nat.{ℕ, ◌+◌, ◌-◌, ◌≤◌}
-use lib.ListN.{length, length-set}
+use Prim.Native.Nat.{ℕ, ◌+◌, ◌-◌}
+use lib.ListN.{length-set}
 use Rattle.covering.specs.Record.{stored, question_of, SoundRecord}
 use Rattle.covering.proofs.Slices.{part_is}
 use Rattle.records.specs.Relations.{relations_of}
 use Rattle.exploration.specs.Held.{held_from, Standing}
-use Rattle.exploration.proofs.Members.{ending, ending_none}
+use Rattle.exploration.proofs.Members.{ending_none}
 use Rattle.exploration.proofs.Standing.{Here, stands}
 use Rattle.admit.specs.Sets.{SetsFrom}
 use Rattle.admit.proofs.Beside.{next_end, sets_next}

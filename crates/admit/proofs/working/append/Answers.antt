@@ -4,7 +4,7 @@ use borrow.Author.Rules.{rules}
 use native.Mathlib.Omega.{arith}
 use mathlib.Core.Path.{◌≡◌, refl, sym, ap, ap₂, ◌∙◌}
 use mathlib.Core.List.{List, ◌++◌, append_assoc}
-use Prim.Native.Nat.{ℕ, ◌+◌, ◌-◌, ◌≤◌, ◌<◌}
+use Prim.Native.Nat.{ℕ, ◌+◌, ◌<◌}
 use lib.ListN.{length, set, length-set, get_or, take, drop}
 use lib.Seq.{paste, paste-zero}
 use Rattle.covering.specs.Record.{stored, question_of, record_bytes, width}
@@ -14,9 +14,9 @@ use Rattle.covering.proofs.Slices.{paste_more}
 use Rattle.admit.proofs.working.append.Goals as goal
 
 -- byte k is copied to the place of byte i, which is the same
-more-copied : (W : List ℕ) (len : ℕ) (M w : List ℕ) (i k : ℕ) → w ≡ paste W len M i → k ≡ i
+more_copied : (W : List ℕ) (len : ℕ) (M w : List ℕ) (i k : ℕ) → w ≡ paste W len M i → k ≡ i
     → len + i < length W → i < length M → set w (len + i) (get_or M k 0) ≡ paste W len M (i + 1)
-more-copied W len M w i k e is hw hm =
+more_copied W len M w i k e is hw hm =
     ap₂ (λ x (j : ℕ). set x (len + i) (get_or M j 0)) e is ∙ paste_more W len M i (len + i) refl hw hm
 
 pub loop-i-init : goal.loop-i-init
@@ -30,7 +30,7 @@ loop-i-preserved c =
     let i = c.loop-i.i in (
       search rules,
       simp length-set (omega arith),
-      more-copied a.work.now a.len a.member.now _ i _ c.loop-i.invariant.2 (omega arith) (search rules)
+      more_copied a.work.now a.len a.member.now _ i _ c.loop-i.invariant.2 (omega arith) (search rules)
           (search rules),
     )
 

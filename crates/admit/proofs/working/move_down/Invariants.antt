@@ -1,14 +1,10 @@
 -- `admit::working::move_down` meets its contract. Bytes that stand where they go are moved by doing nothing. The loop's
 -- invariant: so many of the bytes are moved down; each is read before it is written over, since it stands no lower than
 -- where it goes. The measure is the number of bytes left.
-use borrow.Author.Rules.{rules}
-use native.Mathlib.Omega.{arith}
-use mathlib.Core.Path.{◌≡◌, refl, sym, ap, ap₂, ◌∙◌}
-use mathlib.Core.List.{List, ◌++◌, append_assoc}
-use Prim.Native.Nat.{ℕ, ◌+◌, ◌-◌, ◌≤◌, ◌<◌}
-use lib.ListN.{length, set, length-set, length-drop, get_or, take, drop, take-append-drop}
-use lib.Seq.{paste, paste-zero, get_or-drop, drop-drop}
-use Rattle.covering.proofs.Slices.{paste_more, paste_past}
+use mathlib.Core.Path.{◌≡◌}
+use Prim.Native.Nat.{◌-◌, ◌≤◌}
+use lib.ListN.{length, drop}
+use lib.Seq.{paste}
 use Rattle.admit.proofs.working.move_down.Given as goal
 
 abbrev pub invariant-loop-i : goal.invariant-loop-i

@@ -1,12 +1,10 @@
 -- `cover::desk::covers` meets its contract: the first record is judged, then the second, then the search decides, and
 -- leaves the first map or none.
-use borrow.Author.Rules.{rules}
 use native.Mathlib.Omega.{arith}
 use mathlib.Core.Path.{◌≡◌, refl, sym, ap, ◌∙◌}
 use mathlib.Core.Bool.{Bool, true, cond}
 use Prim.Native.Nat.{ℕ}
 use lib.ListN.{take}
-use borrow.Author.Tests.{not-true, not-false}
 use Rattle.covering.specs.Record.{desk, asking_of, is_desk_record}
 use Rattle.covering.specs.Desk.{covering_map, covers_map, map_size}
 use Rattle.covering.proofs.Tests.{true→T}

@@ -3,7 +3,7 @@
 use borrow.Author.Rules.{rules}
 use native.Mathlib.Omega.{arith}
 use mathlib.Core.Path.{◌≡◌, refl, sym, ◌∙◌, ap, ap₂}
-use Prim.Native.Nat.{ℕ, ◌≤◌}
+use Prim.Native.Nat.{◌≤◌}
 use lib.ListN.{length}
 use Rattle.covering.specs.Asking.{records, joined}
 use Rattle.covering.specs.Search.{find_map, first_map}
@@ -32,28 +32,28 @@ some_place c = omega (arith, width_least c.args.w (desk_passed c.args.w c.args.f
 few_places : (c : Start) → c.args.w ≤ 6
 few_places c = width_most c.args.w (desk_passed c.args.w c.args.first.now c.requires.0).0
 
-first-passed : (c : Start) → Passed (desk c.args.w) c.args.first.now
-first-passed c =
+first_passed : (c : Start) → Passed (desk c.args.w) c.args.first.now
+first_passed c =
     record_passed (desk c.args.w) c.args.first.now (desk_passed c.args.w c.args.first.now c.requires.0).1
 
-second-passed : (c : Start) → Passed (desk c.args.w) c.args.second.now
-second-passed c =
+second_passed : (c : Start) → Passed (desk c.args.w) c.args.second.now
+second_passed c =
     record_passed (desk c.args.w) c.args.second.now (desk_passed c.args.w c.args.second.now c.requires.1).1
 
 first_fits : (c : Start) → Fits stored (joined (asking_of (desk c.args.w) c.args.first.now))
-first_fits c = desk_fits c.args.w (some_place c) c.args.first.now (first-passed c) (few_places c)
+first_fits c = desk_fits c.args.w (some_place c) c.args.first.now (first_passed c) (few_places c)
 
 second_fits : (c : Start) → Fits stored (joined (asking_of (desk c.args.w) c.args.second.now))
-second_fits c = desk_fits c.args.w (some_place c) c.args.second.now (second-passed c) (few_places c)
+second_fits c = desk_fits c.args.w (some_place c) c.args.second.now (second_passed c) (few_places c)
 
 -- how many answer records each has
-first-answers : (c : Start)
+first_answers : (c : Start)
     → records (asking_of (desk c.args.w) c.args.first.now).answer ≡ answers c.args.first.now
-first-answers c = desk_records c.args.w (some_place c) c.args.first.now (first-passed c)
+first_answers c = desk_records c.args.w (some_place c) c.args.first.now (first_passed c)
 
-second-answers : (c : Start)
+second_answers : (c : Start)
     → records (asking_of (desk c.args.w) c.args.second.now).answer ≡ answers c.args.second.now
-second-answers c = desk_records c.args.w (some_place c) c.args.second.now (second-passed c)
+second_answers c = desk_records c.args.w (some_place c) c.args.second.now (second_passed c)
 
 pub returns-then-answers : goal.returns-then-answers
 returns-then-answers c =
@@ -61,7 +61,7 @@ returns-then-answers c =
     (other_records (asking_of (desk c.args.w) c.args.first.now) (asking_of (desk c.args.w) c.args.second.now)
     (λ e.
     c.if-answers.true
-    (c.answers.ensures ∙ sym (first-answers c.before.before.before.before.before.before) ∙ e ∙ second-answers c.before.before.before.before.before.before ∙ sym c.answers-2.ensures)))
+    (c.answers.ensures ∙ sym (first_answers c.before.before.before.before.before.before) ∙ e ∙ second_answers c.before.before.before.before.before.before ∙ sym c.answers-2.ensures)))
 
 pub widened-one-requires : goal.widened-one-requires
 widened-one-requires c = c.requires.0
@@ -87,8 +87,8 @@ returns c =
     let same : records F.answer ≡ records S.answer =
     omega (
       arith,
-      first-answers c.before.before.before.before.before.before.before.before.before.before.before.before,
-      second-answers c.before.before.before.before.before.before.before.before.before.before.before.before,
+      first_answers c.before.before.before.before.before.before.before.before.before.before.before.before,
+      second_answers c.before.before.before.before.before.before.before.before.before.before.before.before,
       c.answers.ensures,
       c.answers-2.ensures,
       c.if-answers.false,
@@ -100,6 +100,6 @@ returns c =
     ∙ ap (find_map _ _) (ap part_of c.requires.2 ∙ part_nowhere 96)
     ∙ sym
     (same_records F S
-    (desk_free c.args.w (some_place c.before.before.before.before.before.before.before.before.before.before.before.before) c.args.second.now (second-passed c.before.before.before.before.before.before.before.before.before.before.before.before))
+    (desk_free c.args.w (some_place c.before.before.before.before.before.before.before.before.before.before.before.before) c.args.second.now (second_passed c.before.before.before.before.before.before.before.before.before.before.before.before))
     same) in
     searched_as _ _ _ _ _ e c.place_next.ensures

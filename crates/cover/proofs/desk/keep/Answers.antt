@@ -1,5 +1,4 @@
 -- `cover::desk::keep` meets its contract: which record is kept says which buffer is handed back.
-use borrow.Author.Rules.{rules}
 use native.Mathlib.Omega.{arith}
 use mathlib.Core.Path.{◌≡◌, sym, ap₂, ◌∙◌}
 use Prim.Native.Nat.{ℕ}

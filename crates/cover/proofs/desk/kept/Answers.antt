@@ -1,5 +1,4 @@
 -- `cover::desk::kept` meets its contract: the two answers say which record is kept, and by which map.
-use borrow.Author.Rules.{rules}
 use mathlib.Core.Path.{sym, ap, ◌∙◌}
 use Rattle.covering.specs.Desk.{chosen_number, kept_answer}
 use Rattle.covering.proofs.Answers.{keeps_first, keeps_second, keeps_neither, map_first, map_second, map_neither}

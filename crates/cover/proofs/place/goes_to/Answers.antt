@@ -2,7 +2,6 @@
 -- measure is the number of places left.
 use native.Mathlib.Omega.{arith}
 use mathlib.Core.Path.{◌≡◌, sym, ap, ◌∙◌}
-use Prim.Native.Nat.{◌-◌, ◌≤◌}
 use lib.ListN.{get_or}
 use Rattle.cover.specs.HeldMap.{sent_to}
 use Rattle.cover.proofs.Sent.{sent_none, sent_kept, sent_first, sent_passes}

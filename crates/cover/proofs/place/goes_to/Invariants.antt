@@ -1,11 +1,9 @@
 -- `cover::place::goes_to` meets its contract. The loop's invariant: after n places the variable goes nowhere yet. The
 -- measure is the number of places left.
-use native.Mathlib.Omega.{arith}
-use mathlib.Core.Path.{◌≡◌, sym, ap, ◌∙◌}
+use mathlib.Core.Path.{◌≡◌}
 use Prim.Native.Nat.{◌-◌, ◌≤◌}
 use lib.ListN.{get_or}
 use Rattle.cover.specs.HeldMap.{sent_to}
-use Rattle.cover.proofs.Sent.{sent_none, sent_kept, sent_first, sent_passes}
 use Rattle.cover.proofs.place.goes_to.Given as goal
 
 abbrev pub invariant-loop-n : goal.invariant-loop-n

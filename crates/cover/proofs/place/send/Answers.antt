@@ -1,14 +1,11 @@
 -- `cover::place::send` meets its contract. The loop's invariant: j places are sent, and what the map had for each is
 -- kept. The measure is the number of places left.
-use borrow.Author.Rules.{rules}
 use native.Mathlib.Omega.{arith}
 use mathlib.Core.Path.{◌≡◌, refl, sym, ◌∙◌}
 use native.Mathlib.Nat.{add-zero}
-use Prim.Native.Nat.{◌+◌, ◌-◌, ◌≤◌}
-use lib.Dec.{T}
-use Rattle.covering.specs.Record.{stored, used_first}
+use Prim.Native.Nat.{◌-◌}
+use Rattle.covering.specs.Record.{stored}
 use Rattle.covering.proofs.Bytes.{used_more}
-use Rattle.cover.specs.HeldMap.{sent_to, HadBefore}
 use Rattle.cover.proofs.Sent.{sent_none, sent_more, had_none, had_more}
 use Rattle.cover.proofs.Meeting.{stops, sent_end, had_end}
 use Rattle.cover.proofs.place.send.Goals as goal

@@ -1,9 +1,7 @@
 -- `cover::place::take_back` meets its contract. The loop's invariant: what taking back all of it gives, taking back the
 -- places that are left gives. The measure is their number.
 use native.Mathlib.Omega.{arith}
-use mathlib.Core.Path.{◌≡◌, refl, sym, ◌∙◌}
-use Prim.Native.Nat.{◌-◌, ◌≤◌}
-use Rattle.cover.specs.HeldMap.{taken_back}
+use mathlib.Core.Path.{refl, sym, ◌∙◌}
 use Rattle.cover.proofs.Sent.{back_none, back_writes, back_passes}
 use Rattle.cover.proofs.place.take_back.Goals as goal
 

@@ -1,20 +1,12 @@
 -- `cover::place::terms_meet` meets its contract. The loop's invariant: sending all the places is sending those from the
 -- j-th on under the map that the places before make, and these are sound. The measure is the number of places left.
-use native.Mathlib.Omega.{arith}
-use native.Mathlib.Nat.{add-zero}
-use mathlib.Core.Path.{◌≡◌, refl, sym, ap, ◌∙◌}
+use mathlib.Core.Path.{◌≡◌}
 use Prim.Native.Nat.{ℕ, ◌+◌, ◌-◌, ◌≤◌, ◌<◌}
-use borrow.Author.Tests.{not-true, not-false}
 use lib.Dec.{T}
 use lib.ListN.{get_or}
-use Rattle.covering.specs.Lists.{is_some}
 use Rattle.covering.specs.Search.{place_terms}
 use Rattle.covering.specs.Record.{stored, args_at, used_first}
 use Rattle.cover.specs.HeldMap.{part_of, sent_to}
-use Rattle.covering.proofs.Bytes.{used_more, term_constant}
-use Rattle.cover.proofs.Maps.{places_end, places_short, places_clash, places_done}
-use Rattle.cover.proofs.Sent.{sent_none}
-use Rattle.cover.proofs.Meeting.{some_if, one_used, sent_next, not_some}
 use Rattle.cover.proofs.place.terms_meet.Given as goal
 
 abbrev pub invariant-loop-j : goal.invariant-loop-j

@@ -4,13 +4,11 @@
 -- on finds.
 use native.Mathlib.Omega.{arith}
 use mathlib.Core.Path.{◌≡◌, refl, sym, ap, ◌∙◌}
-use Prim.Native.Nat.{ℕ, ◌+◌, ◌*◌, ◌-◌, ◌≤◌, ◌<◌}
-use borrow.Author.Tests.{not-true, not-false, eq-eqb, ne_eqb}
+use Prim.Native.Nat.{◌+◌, ◌-◌}
+use borrow.Author.Tests.{eq-eqb, ne_eqb}
 use lib.ListN.{length, get_or}
-use Rattle.covering.specs.Search.{find_map}
 use Rattle.covering.specs.Lists.{is_some}
 use Rattle.covering.specs.Record.{stored, atom_at, atoms_at, question_of}
-use Rattle.covering.specs.Buffer.{record_room}
 use Rattle.covering.proofs.Bytes.{atom_used}
 use Rattle.covering.proofs.Places.{question_at_lem}
 use Rattle.covering.proofs.Within.{in_first, in_rest}

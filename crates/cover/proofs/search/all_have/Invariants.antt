@@ -1,15 +1,11 @@
 -- `cover::search::all_have` meets its contract. The loop's invariant: all atoms have a candidate exactly where those
 -- from here on have, and these are sound. The measure is their number.
-use native.Mathlib.Omega.{arith}
-use mathlib.Core.Path.{◌≡◌, refl, sym, ◌∙◌}
-use borrow.Author.Tests.{not-true, not-false}
+use mathlib.Core.Path.{◌≡◌}
 use Rattle.covering.specs.Lists.{all}
 use Rattle.covering.specs.Record.{stored, atoms_at, question_of}
 use Rattle.cover.specs.HeldMap.{part_of}
 use Rattle.covering.specs.Buffer.{AtomsIn}
 use Rattle.cover.specs.Candidates.{has_candidate}
-use Rattle.covering.proofs.EachAtom.{each_none, each_fails, each_passes}
-use Rattle.covering.proofs.Places.{sound_more}
 use Rattle.cover.proofs.search.all_have.Given as goal
 
 abbrev pub invariant-loop-more : goal.invariant-loop-more

@@ -16,8 +16,8 @@ use Rattle.cover.proofs.search.covers_on.Goals as goal
 
 pub returns-then-first-second : goal.returns-then-first-second
 returns-then-first-second c =
-    let none-there = on_apart _ _ _ _ _ (atoms_apart stored _ _ _ _ _ c.if-first-second.true) in
-    searched_as _ _ _ _ _ (on_candidate stored c.args.first.now _ _ _ (omega (arith, c.requires.4))) (not_found _ _ none-there)
+    let none_there = on_apart _ _ _ _ _ (atoms_apart stored _ _ _ _ _ c.if-first-second.true) in
+    searched_as _ _ _ _ _ (on_candidate stored c.args.first.now _ _ _ (omega (arith, c.requires.4))) (not_found _ _ none_there)
 
 pub overflow_sub-n : goal.overflow_sub-n
 overflow_sub-n c = omega (arith, copy_count _ _ c.requires.0 c.copy_record-held.ensures, c.requires.4)

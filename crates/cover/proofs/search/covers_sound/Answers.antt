@@ -2,7 +2,6 @@
 -- else a sound record counts all its atoms, and the search starts at the first, with no variable placed.
 use borrow.Author.Rules.{rules}
 use mathlib.Core.Path.{◌≡◌, refl, sym, ap, ap₂, ◌∙◌}
-use borrow.Author.Tests.{not-true}
 use lib.ListN.{length, replicate}
 use Rattle.covering.specs.Search.{find_map, first_map, covers}
 use Rattle.covering.specs.Record.{stored, question_of}

@@ -1,16 +1,12 @@
 -- `cover::search::has_candidate` meets its contract. The loop's invariant: the atom has a candidate in all exactly
 -- where it has one among those from here on. The measure is their number. An atom of another relation is none; of the
 -- same one the places decide.
-use borrow.Author.Rules.{rules}
 use native.Mathlib.Omega.{arith}
 use mathlib.Core.Path.{◌≡◌, refl, sym, ap, ◌∙◌}
 use mathlib.Core.Bool.{false}
-use mathlib.Core.Logic.{⊎_elim}
-use Prim.Native.Nat.{◌+◌, ◌*◌, ◌≤◌}
 use Rattle.covering.specs.Lists.{is_some}
 use Rattle.covering.specs.Search.{place_atom}
-use Rattle.covering.specs.Record.{stored, atom_at, atoms_at, question_of}
-use Rattle.covering.specs.Buffer.{record_room}
+use Rattle.covering.specs.Record.{stored, atom_at}
 use Rattle.covering.proofs.Bytes.{atom_used}
 use Rattle.covering.proofs.Places.{question_at_lem}
 use Rattle.cover.specs.HeldMap.{part_of}

@@ -1,19 +1,14 @@
 -- `cover::search::leads_on` meets its contract. The loop's invariant: the atom brings something new exactly where a place
 -- from the j-th on does, and these are sound. The measure is their number.
-use native.Mathlib.Omega.{arith}
-use native.Mathlib.Nat.{add-zero}
-use mathlib.Core.Path.{◌≡◌, refl, sym, ◌∙◌}
+use mathlib.Core.Path.{◌≡◌}
 use mathlib.Core.Bool.{◌&&◌}
 use Prim.Native.Nat.{◌+◌, ◌-◌, ◌≤◌}
 use lib.Dec.{T}
 use Rattle.covering.specs.Lists.{any}
 use Rattle.covering.specs.Term.{terms, eq_term}
-use Rattle.covering.specs.Record.{stored, args_at, atom_at, atoms_at, used_first}
-use Rattle.covering.proofs.Bytes.{used_more, term_constant, atom_used}
-use Rattle.covering.proofs.Within.{in_rest}
+use Rattle.covering.specs.Record.{stored, args_at, atoms_at, used_first}
 use Rattle.cover.specs.HeldMap.{part_of}
-use Rattle.cover.specs.Candidates.{new_to, leads_on}
-use Rattle.cover.proofs.Leads.{args_stop, args_hit, args_miss, args_none}
+use Rattle.cover.specs.Candidates.{new_to}
 use Rattle.cover.proofs.search.leads_on.Given as goal
 
 abbrev pub invariant-loop-j : goal.invariant-loop-j

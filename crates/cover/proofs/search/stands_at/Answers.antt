@@ -2,12 +2,11 @@
 -- those from the j-th on. The measure is their number.
 use native.Mathlib.Omega.{arith}
 use native.Mathlib.Nat.{add-zero}
-use mathlib.Core.Path.{◌≡◌, refl, sym, ◌∙◌}
-use Prim.Native.Nat.{◌+◌, ◌-◌, ◌≤◌}
+use mathlib.Core.Path.{refl, sym, ◌∙◌}
+use Prim.Native.Nat.{◌+◌}
 use borrow.Author.Tests.{eq-eqb, ne_eqb}
-use Rattle.covering.specs.Lists.{any}
 use Rattle.covering.specs.Term.{eq_term}
-use Rattle.covering.specs.Record.{term_of, args_at}
+use Rattle.covering.specs.Record.{term_of}
 use Rattle.covering.proofs.Bytes.{term_same}
 use Rattle.cover.proofs.Leads.{args_stop, args_hit, args_miss, args_none}
 use Rattle.cover.proofs.search.stands_at.Goals as goal

@@ -1,15 +1,10 @@
 -- `cover::search::stands_at` meets its contract. The loop's invariant: t is among all places exactly where it is among
 -- those from the j-th on. The measure is their number.
-use native.Mathlib.Omega.{arith}
-use native.Mathlib.Nat.{add-zero}
-use mathlib.Core.Path.{◌≡◌, refl, sym, ◌∙◌}
+use mathlib.Core.Path.{◌≡◌}
 use Prim.Native.Nat.{◌+◌, ◌-◌, ◌≤◌}
-use borrow.Author.Tests.{eq-eqb, ne_eqb}
 use Rattle.covering.specs.Lists.{any}
 use Rattle.covering.specs.Term.{eq_term}
 use Rattle.covering.specs.Record.{term_of, args_at}
-use Rattle.covering.proofs.Bytes.{term_same}
-use Rattle.cover.proofs.Leads.{args_stop, args_hit, args_miss, args_none}
 use Rattle.cover.proofs.search.stands_at.Given as goal
 
 abbrev pub invariant-loop-j : goal.invariant-loop-j

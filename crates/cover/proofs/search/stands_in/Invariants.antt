@@ -1,13 +1,11 @@
 -- `cover::search::stands_in` meets its contract. The loop's invariant: t stands in all atoms exactly where it stands in
 -- those from here on. The measure is their number.
-use native.Mathlib.Omega.{arith}
-use mathlib.Core.Path.{◌≡◌, refl, sym, ◌∙◌}
+use mathlib.Core.Path.{◌≡◌}
 use Prim.Native.Nat.{◌+◌, ◌*◌, ◌≤◌}
 use Rattle.covering.specs.Lists.{any}
 use Rattle.covering.specs.Term.{terms, eq_term}
 use Rattle.covering.specs.Record.{stored, term_of, atoms_at}
 use Rattle.covering.specs.Buffer.{record_room}
-use Rattle.cover.proofs.Leads.{terms_none, terms_hit, terms_miss}
 use Rattle.cover.proofs.search.stands_in.Given as goal
 
 abbrev pub invariant-loop-more : goal.invariant-loop-more

@@ -1,12 +1,11 @@
 -- `explore::exploring::explore` meets its contract. The loop's invariant (`Onward`): the exploration's outcome is that of
 -- the rewritings yet to come, from the state that the array holds. The measure is the number of rewritings yet to come.
-use borrow.Author.Rules.{rules}
 use native.Mathlib.Omega.{arith}
-use mathlib.Core.Path.{◌≡◌, refl, sym, ap, ◌∙◌, subst}
+use mathlib.Core.Path.{◌≡◌, sym, ap, ◌∙◌, subst}
 use mathlib.Core.Bool.{Bool}
 use mathlib.Core.List.{List}
 use Prim.Native.Nat.{ℕ, ◌+◌, ◌<◌}
-use lib.ListN.{length, get_or, drop}
+use lib.ListN.{length, get_or}
 use Rattle.covering.specs.Lists.{◌∈◌}
 use Rattle.covering.specs.Term.{Question}
 use Rattle.covering.specs.Search.{covers}
@@ -20,17 +19,17 @@ use Rattle.unification.specs.Choice.{count}
 use Rattle.unification.proofs.Following.{listed_below}
 use Rattle.lister.specs.Listing.{QuestionIn}
 use Rattle.admit.specs.declared.Fate.{Fate}
-use Rattle.admit.specs.declared.Fate.TheVariants.{Dropped, Appended, Refused}
+use Rattle.admit.specs.declared.Fate.TheVariants.{Dropped, Appended}
 use Rattle.exploration.specs.Run.{apart, all_rewritings, limits_for}
 use Rattle.exploration.specs.Refusals.{limits_of}
 use Rattle.admit.specs.WorkingArray.{FateIs}
-use Rattle.admit.specs.Sets.{Beside, BesideAfter}
+use Rattle.admit.specs.Sets.{BesideAfter}
 use Rattle.admit.proofs.Array.{stands_all}
 use Rattle.exploration.specs.Union.{first_at}
 use Rattle.exploration.specs.Held.{held_from}
 use Rattle.explore.specs.Skipping.{GoesOn}
 use Rattle.explore.proofs.Among.{rule_here}
-use Rattle.explore.proofs.Coming.{coming, Given, given_none, given_some}
+use Rattle.explore.proofs.Coming.{Given, given_none, given_some}
 use Rattle.explore.proofs.Records.{rewriting_sound, rewriting_question, member_sound}
 use Rattle.lister.proofs.FromBook.{member_in}
 use Rattle.explore.proofs.Onward.{Onward, onward_first, onward_done, onward_dropped, onward_refused}
@@ -56,8 +55,8 @@ Past-After-known_told = lts.Past-After-known_told tie.the-claims reads.Pre reads
 abbrev Past-After-enum_told : Type 0
 Past-After-enum_told = lts.Past-After-enum_told tie.the-claims reads.Pre reads.Post goal.the-invariant-loop-room goal.the-decreases-loop-room
 
-abbrev rules-of : At-loop → List Rule
-rules-of c = (book_of c.args.book.now).rules
+abbrev rules_of_here : At-loop → List Rule
+rules_of_here c = (book_of c.args.book.now).rules
 
 abbrev member_of : At-loop → Question
 member_of c = question_of stored c.args.member.now
@@ -67,11 +66,11 @@ record_of c = c.next_rewriting-taken.new.out
 
 -- the rewriting of this turn
 given : (c : Else1)
-    → Given (member_of c.before.before.before.before) c.loop-room.rule c.loop-room.from (rules-of c.before.before.before.before)
+    → Given (member_of c.before.before.before.before) c.loop-room.rule c.loop-room.from (rules_of_here c.before.before.before.before)
     c.next_rewriting-taken.result (record_of c)
 given c = given_some _ _ _ _ _ _ _ c.next_rewriting-taken.ensures.0 (not_false _ c.if-not-taken.false)
 
-listed : (c : Else1) → (given c).rewriting ∈ all_rewritings (rules-of c.before.before.before.before) (member_of c.before.before.before.before)
+listed : (c : Else1) → (given c).rewriting ∈ all_rewritings (rules_of_here c.before.before.before.before) (member_of c.before.before.before.before)
 listed c = rewriting_in _ _ _ _ _ c.loop-room.invariant.0 (given c)
 
 -- its record is sound, and its question is the rewriting
@@ -115,23 +114,23 @@ appended c = subst (Became c.before.before.before) c.in-Appended.is (fate c.befo
 abbrev After : After-admit → Fate → Type 0
 After c r = BesideAfter c.admit-fate.new.sets c.admit-fate.new.work c.loop-room.held r
 
-appended-sets : (c : Past-After-known_told)
+appended_sets : (c : Past-After-known_told)
     → After c.before.before.before (Appended c.in-Appended.next)
-appended-sets c =
+appended_sets c =
     subst (After c.before.before.before) c.in-Appended.is c.admit-fate.ensures.1
 
 -- the rule of this turn, and its choice
-own-rule : (c : Else1)
+own_rule : (c : Else1)
     → (c.next_rewriting-taken.result.rule < rules_of c.args.book.now)
     × ((given c).here
     ≡ rule_at c.args.book.now
     (rule_start c.args.book.now c.next_rewriting-taken.result.rule))
-own-rule c = rule_here c.args.book.now _ (given c).rules_are
+own_rule c = rule_here c.args.book.now _ (given c).rules_are
 
-own-choice : (c : Else1)
+own_choice : (c : Else1)
     → c.next_rewriting-taken.result.choice
     < count (length (given c).here.head) (get_or c.args.member.now 0 0)
-own-choice c =
+own_choice c =
     subst (λ (n : ℕ). c.next_rewriting-taken.result.choice < count (length (given c).here.head) n)
     (question_count stored c.args.member.now)
     (listed_below apart (given c).here (member_of c.before.before.before.before) _ _ (given c).listed_is)
@@ -141,23 +140,22 @@ dropped : (c : Past-After-enum_told) → Became c.before.before.before Dropped
 dropped c =
     subst (Became c.before.before.before) c.in-Dropped.is (fate c.before.before.before)
 
-dropped-sets : (c : Past-After-enum_told) → After c.before.before.before Dropped
-dropped-sets c =
+dropped_sets : (c : Past-After-enum_told) → After c.before.before.before Dropped
+dropped_sets c =
     subst (After c.before.before.before) c.in-Dropped.is c.admit-fate.ensures.1
 
 onward : (c : Past-After-enum_told)
-    → Onward (limits_of c.args.book.now) (rules-of c.before.before.before.before.before.before.before.before.before.before.before.before) (member_of c.before.before.before.before.before.before.before.before.before.before.before.before) c.args.work.now c.args.filled
+    → Onward (limits_of c.args.book.now) (rules_of_here c.before.before.before.before.before.before.before.before.before.before.before.before) (member_of c.before.before.before.before.before.before.before.before.before.before.before.before) c.args.work.now c.args.filled
     c.admit-fate.new.work c.loop-room.held c.next_rewriting-taken.result.rule
     (c.next_rewriting-taken.result.choice + 1)
 onward c =
     onward_dropped _ _ _ _ _ c.loop-room.invariant.0 (given c.before.before.before.before.before.before.before.before) c.admit-fate.new.work (dropped c)
 
 pub loop-room-init : goal.loop-room-init
-loop-room-init c =
-    (
-      onward_first (limits_of c.args.book.now) (book_of c.args.book.now).rules (question_of stored c.args.member.now) _ _ c.requires.4,
-      c.requires.8,
-    )
+loop-room-init c = (
+  onward_first (limits_of c.args.book.now) (book_of c.args.book.now).rules (question_of stored c.args.member.now) _ _ c.requires.4,
+  c.requires.8,
+)
 
 pub next_rewriting-taken-requires : goal.next_rewriting-taken-requires
 next_rewriting-taken-requires c =
@@ -175,24 +173,22 @@ pub shape_of-work-then-not-taken : goal.shape_of-work-then-not-taken
 shape_of-work-then-not-taken c = c.loop-room.invariant.0.working.held.size ∙ sym c.requires.4.held.size
 
 pub returns-then-not-taken : goal.returns-then-not-taken
-returns-then-not-taken c =
-    (
-      onward_done _ _ _ _ _ c.loop-room.invariant.0
-          (given_none _ _ _ _ _ _ _ c.next_rewriting-taken.ensures.0 (not_true _ c.if-not-taken.true)),
-      c.loop-room.invariant.1,
-    )
+returns-then-not-taken c = (
+  onward_done _ _ _ _ _ c.loop-room.invariant.0
+      (given_none _ _ _ _ _ _ _ c.next_rewriting-taken.ensures.0 (not_true _ c.if-not-taken.true)),
+  c.loop-room.invariant.1,
+)
 
 pub overflow_add-from : goal.overflow_add-from
 overflow_add-from c = omega (arith, c.next_rewriting-taken.ensures.1)
 
 pub admit-fate-requires : goal.admit-fate-requires
-admit-fate-requires c =
-    (
-      c.loop-room.invariant.0.working,
-      sound c.before.before.before.before.before,
-      omega (arith, c.requires.5, answers_few c.args.book.now c.requires.0),
-      c.loop-room.invariant.1,
-    )
+admit-fate-requires c = (
+  c.loop-room.invariant.0.working,
+  sound c.before.before.before.before.before,
+  omega (arith, c.requires.5, answers_few c.args.book.now c.requires.0),
+  c.loop-room.invariant.1,
+)
 
 pub after_drop-resumed-requires : goal.after_drop-resumed-requires
 after_drop-resumed-requires c =
@@ -203,12 +199,12 @@ after_drop-resumed-requires c =
       subst QuestionIn (sym M.holds) (member_in c.args.book.now c.requires.0 c.requires.6 _ M.fits),
       (onward c.before.before).working.few,
       stands_all (onward c.before.before).working,
-      (own-rule c.before.before.before.before.before.before.before.before.before.before).0,
+      (own_rule c.before.before.before.before.before.before.before.before.before.before).0,
       subst
           (λ (r : Rule).
           c.next_rewriting-taken.result.choice < count (length r.head) (get_or c.args.member.now 0 0))
-          (own-rule c.before.before.before.before.before.before.before.before.before.before).1 (own-choice c.before.before.before.before.before.before.before.before.before.before),
-      dropped-sets c.before.before,
+          (own_rule c.before.before.before.before.before.before.before.before.before.before).1 (own_choice c.before.before.before.before.before.before.before.before.before.before),
+      dropped_sets c.before.before,
     )
 
 pub loop-room-smaller-in-Dropped : goal.loop-room-smaller-in-Dropped
@@ -216,56 +212,51 @@ loop-room-smaller-in-Dropped c =
     fewer_passed _ _ _ _ _ c.loop-room.invariant.0 (given c.before.before.before.before.before.before.before.before.before.before.before.before) c.after_drop-resumed.ensures.later
 
 pub loop-room-preserved-in-Dropped : goal.loop-room-preserved-in-Dropped
-loop-room-preserved-in-Dropped c =
-    (
-      onward_passed _ _ _ _ _ c.loop-room.invariant.0 (given c.before.before.before.before.before.before.before.before.before.before.before.before) (onward c.before.before.before.before)
-          (subst
-          (λ (r : Rule).
-          GoesOn r (member_of c.before.before.before.before.before.before.before.before.before.before.before.before.before.before.before.before) (held_from c.admit-fate.new.work first_at c.loop-room.held.count)
-          c.next_rewriting-taken.result.choice c.after_drop-resumed.result.from)
-          (sym (own-rule c.before.before.before.before.before.before.before.before.before.before.before.before).1) c.after_drop-resumed.ensures),
-      dropped-sets c.before.before.before.before,
-    )
+loop-room-preserved-in-Dropped c = (
+  onward_passed _ _ _ _ _ c.loop-room.invariant.0 (given c.before.before.before.before.before.before.before.before.before.before.before.before) (onward c.before.before.before.before)
+      (subst
+      (λ (r : Rule).
+      GoesOn r (member_of c.before.before.before.before.before.before.before.before.before.before.before.before.before.before.before.before) (held_from c.admit-fate.new.work first_at c.loop-room.held.count)
+      c.next_rewriting-taken.result.choice c.after_drop-resumed.result.from)
+      (sym (own_rule c.before.before.before.before.before.before.before.before.before.before.before.before).1) c.after_drop-resumed.ensures),
+  dropped_sets c.before.before.before.before,
+)
 
 pub covers_sound-requires : goal.covers_sound-requires
-covers_sound-requires c =
-    (
-      sound c.before.before.before.before.before.before.before.before.before.before.before,
-      subst (SoundRecord stored) (sym c.requires.3.holds) (member_sound c.args.book.now c.requires.0 _ c.requires.3.fits),
-    )
+covers_sound-requires c = (
+  sound c.before.before.before.before.before.before.before.before.before.before.before,
+  subst (SoundRecord stored) (sym c.requires.3.holds) (member_sound c.args.book.now c.requires.0 _ c.requires.3.fits),
+)
 
 pub shape_of-work-then-covers_sound : goal.shape_of-work-then-covers_sound
 shape_of-work-then-covers_sound c =
     (appended c.before.before.before.before.before).1.held.size ∙ sym c.requires.4.held.size
 
 pub returns-then-covers_sound : goal.returns-then-covers_sound
-returns-then-covers_sound c =
-    (
-      onward_stopped _ _ _ _ _ c.loop-room.invariant.0 (given c.before.before.before.before.before.before.before.before.before.before.before.before.before) _ _ (appended c.before.before.before.before.before)
-          (covers_is c.before.before.before.before.before.before.before.before.before.before.before.before.before _ c.covers_sound.ensures ∙ c.if-covers_sound.true),
-      appended-sets c.before.before.before.before.before,
-    )
+returns-then-covers_sound c = (
+  onward_stopped _ _ _ _ _ c.loop-room.invariant.0 (given c.before.before.before.before.before.before.before.before.before.before.before.before.before) _ _ (appended c.before.before.before.before.before)
+      (covers_is c.before.before.before.before.before.before.before.before.before.before.before.before.before _ c.covers_sound.ensures ∙ c.if-covers_sound.true),
+  appended_sets c.before.before.before.before.before,
+)
 
 pub loop-room-smaller : goal.loop-room-smaller
 loop-room-smaller c =
     fewer _ _ _ _ _ c.loop-room.invariant.0 (given c.before.before.before.before.before.before.before.before.before.before.before.before.before)
 
 pub loop-room-preserved : goal.loop-room-preserved
-loop-room-preserved c =
-    (
-      onward_appended _ _ _ _ _ c.loop-room.invariant.0 (given c.before.before.before.before.before.before.before.before.before.before.before.before.before) _ _ (appended c.before.before.before.before.before)
-          (covers_is c.before.before.before.before.before.before.before.before.before.before.before.before.before _ c.covers_sound.ensures ∙ c.if-covers_sound.false),
-      appended-sets c.before.before.before.before.before,
-    )
+loop-room-preserved c = (
+  onward_appended _ _ _ _ _ c.loop-room.invariant.0 (given c.before.before.before.before.before.before.before.before.before.before.before.before.before) _ _ (appended c.before.before.before.before.before)
+      (covers_is c.before.before.before.before.before.before.before.before.before.before.before.before.before _ c.covers_sound.ensures ∙ c.if-covers_sound.false),
+  appended_sets c.before.before.before.before.before,
+)
 
 pub shape_of-work-in-Refused : goal.shape_of-work-in-Refused
 shape_of-work-in-Refused c =
     c.admit-fate.auto.work ∙ c.loop-room.invariant.0.working.held.size ∙ sym c.requires.4.held.size
 
 pub returns-in-Refused : goal.returns-in-Refused
-returns-in-Refused c =
-    (
-      onward_refused _ _ _ _ _ c.loop-room.invariant.0 (given c.before.before.before.before.before.before.before.before.before) _
-          (subst (Became c.before.before.before.before) c.in-Refused.is (fate c.before.before.before.before)),
-      tt,
-    )
+returns-in-Refused c = (
+  onward_refused _ _ _ _ _ c.loop-room.invariant.0 (given c.before.before.before.before.before.before.before.before.before) _
+      (subst (Became c.before.before.before.before) c.in-Refused.is (fate c.before.before.before.before)),
+  tt,
+)

@@ -1,12 +1,10 @@
 -- `explore::related::head_sets` meets its contract. The loop's invariant: the sets of the rules so far are stored, and
 -- whether they have existential variables. The measure is the number of rules left.
-use borrow.Author.Rules.{rules}
 use native.Mathlib.Omega.{arith}
-use mathlib.Core.Path.{◌≡◌, refl, sym, ap, ◌∙◌}
+use mathlib.Core.Path.{◌≡◌, refl, ap, ◌∙◌}
 use mathlib.Core.Bool.{cond, Bool}
-use mathlib.Core.List.{List}
-use Prim.Native.Nat.{ℕ, ◌+◌, ◌*◌, ◌-◌, ◌≤◌, ◌<◌}
-use lib.ListN.{length, get_or, set, length-set}
+use Prim.Native.Nat.{ℕ, ◌+◌, ◌≤◌, ◌<◌}
+use lib.ListN.{length, set, length-set}
 use Rattle.reading.specs.Header.{rules as rules_of}
 use Rattle.reading.specs.Book.{rule_at, rule_start}
 use Rattle.records.specs.Relations.{relations_of}

@@ -1,19 +1,12 @@
 -- `explore::related::head_sets` meets its contract. The loop's invariant: the sets of the rules so far are stored, and
 -- whether they have existential variables. The measure is the number of rules left.
-use borrow.Author.Rules.{rules}
-use native.Mathlib.Omega.{arith}
-use mathlib.Core.Path.{◌≡◌, refl, sym, ap, ◌∙◌}
-use mathlib.Core.Bool.{cond, Bool}
-use mathlib.Core.List.{List}
-use Prim.Native.Nat.{ℕ, ◌+◌, ◌*◌, ◌-◌, ◌≤◌, ◌<◌}
-use lib.ListN.{length, get_or, set, length-set}
-use Rattle.reading.specs.Header.{rules as rules_of}
+use mathlib.Core.Path.{◌≡◌}
+use mathlib.Core.Bool.{cond}
+use Prim.Native.Nat.{ℕ, ◌+◌, ◌-◌, ◌≤◌, ◌<◌}
+use lib.ListN.{length, get_or}
 use Rattle.reading.specs.Book.{rule_at, rule_start}
 use Rattle.records.specs.Relations.{relations_of}
 use Rattle.unify.specs.Unknowns.{has_unknowns}
-use Rattle.book.proofs.Stores.{stored_upto, stored_other}
-use Rattle.explore.proofs.Among.{rules_few, start_fits, start_inside, parts_in, parts_are}
-use Rattle.explore.proofs.RelatedRules.{head_set, unknowns_of, stored_after}
 use Rattle.explore.proofs.related.head_sets.Given as goal
 
 abbrev pub invariant-loop-k : goal.invariant-loop-k

@@ -1,21 +1,16 @@
 -- `explore::skipping::after_covered` meets its contract. The loop's invariant: all that is listed between the choice and
 -- the number to go on from is covered. The measure is how many digits the prefix has.
-use borrow.Author.Rules.{rules}
 use native.Mathlib.Omega.{arith}
-use mathlib.Core.Path.{◌≡◌, sym, ap, ap₂}
-use Prim.Native.Nat.{◌-◌, ◌≤◌, ◌<◌}
+use mathlib.Core.Path.{sym, ap, ap₂}
+use Prim.Native.Nat.{◌-◌, ◌<◌}
 use lib.ListN.{get_or}
-use Rattle.covering.specs.Record.{stored, question_of}
+use Rattle.covering.specs.Record.{stored}
 use Rattle.covering.proofs.Lengths.{question_count}
 use Rattle.covering.proofs.Tests.{not_false}
 use Rattle.unification.specs.Choice.{count}
-use Rattle.lister.specs.Listing.{rule_of}
 use Rattle.lister.specs.Counts.{most_choices}
 use Rattle.lister.proofs.Answers.{heads_are}
 use Rattle.lister.proofs.Asked.{count_few}
-use Rattle.exploration.specs.Union.{first_at}
-use Rattle.exploration.specs.Held.{held_from}
-use Rattle.explore.specs.Skipping.{GoesOn}
 use Rattle.explore.proofs.PassedOver.{goes_next, covered_yes, goes_after}
 use Rattle.explore.proofs.skipping.after_covered.Lts as lts
 use Rattle.explore.proofs.skipping.after_covered.Reads as reads
@@ -50,15 +45,14 @@ pub returns-then-not-prefix_covered : goal.returns-then-not-prefix_covered
 returns-then-not-prefix_covered c = c.loop-p.invariant.1
 
 pub after_prefix-from-requires : goal.after_prefix-from-requires
-after_prefix-from-requires c =
-    (
-      omega (arith, c.requires.0.atoms.fits),
-      c.requires.1.some_head,
-      c.requires.1.few_head,
-      omega (arith, c.loop-p.invariant.0),
-      omega (arith, c.shortest-least.ensures, c.loop-p-test.true),
-      small c.before.before.before.before.before.before.before.before.before.before,
-    )
+after_prefix-from-requires c = (
+  omega (arith, c.requires.0.atoms.fits),
+  c.requires.1.some_head,
+  c.requires.1.few_head,
+  omega (arith, c.loop-p.invariant.0),
+  omega (arith, c.shortest-least.ensures, c.loop-p-test.true),
+  small c.before.before.before.before.before.before.before.before.before.before,
+)
 
 pub loop-p-smaller : goal.loop-p-smaller
 loop-p-smaller c = omega (arith, c.loop-p-test.true)

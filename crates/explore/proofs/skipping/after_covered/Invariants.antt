@@ -1,22 +1,11 @@
 -- `explore::skipping::after_covered` meets its contract. The loop's invariant: all that is listed between the choice and
 -- the number to go on from is covered. The measure is how many digits the prefix has.
-use borrow.Author.Rules.{rules}
-use native.Mathlib.Omega.{arith}
-use mathlib.Core.Path.{◌≡◌, sym, ap, ap₂}
-use Prim.Native.Nat.{◌-◌, ◌≤◌, ◌<◌}
-use lib.ListN.{get_or}
+use Prim.Native.Nat.{◌≤◌}
 use Rattle.covering.specs.Record.{stored, question_of}
-use Rattle.covering.proofs.Lengths.{question_count}
-use Rattle.covering.proofs.Tests.{not_false}
-use Rattle.unification.specs.Choice.{count}
 use Rattle.lister.specs.Listing.{rule_of}
-use Rattle.lister.specs.Counts.{most_choices}
-use Rattle.lister.proofs.Answers.{heads_are}
-use Rattle.lister.proofs.Asked.{count_few}
 use Rattle.exploration.specs.Union.{first_at}
 use Rattle.exploration.specs.Held.{held_from}
 use Rattle.explore.specs.Skipping.{GoesOn}
-use Rattle.explore.proofs.PassedOver.{goes_next, covered_yes, goes_after}
 use Rattle.explore.proofs.skipping.after_covered.Given as goal
 
 abbrev pub invariant-loop-p : goal.invariant-loop-p

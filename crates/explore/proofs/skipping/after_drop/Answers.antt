@@ -1,5 +1,4 @@
 -- `explore::skipping::after_drop` meets its contract: it goes on at the next choice, or where `after_covered` says.
-use borrow.Author.Rules.{rules}
 use native.Mathlib.Omega.{arith}
 use mathlib.Core.Path.{◌≡◌, refl, sym, ap, ◌∙◌, subst}
 use mathlib.Core.List.{List}
@@ -33,23 +32,23 @@ book c = c.args.book.now
 
 -- the rule of that number: its parts p as they were read
 module _ (b : Start) (p : Parts) (e : p ≡ parts_at (book b) (get_or b.args.starts.now b.args.rule 0)) where
-  own-rule : rule_of (book b) p ≡ rule_at (book b) (rule_start (book b) b.args.rule)
-  own-rule = rule_is (book b) b.requires.0 b.args.starts.now b.requires.2 _ b.requires.6 b.requires.1 p e
+  own_rule : rule_of (book b) p ≡ rule_at (book b) (rule_start (book b) b.args.rule)
+  own_rule = rule_is (book b) b.requires.0 b.args.starts.now b.requires.2 _ b.requires.6 b.requires.1 p e
 
   in_book_lem : RuleIn (book b) p
   in_book_lem = parts_in (book b) b.requires.0 b.args.starts.now b.requires.2 _ b.requires.6 b.requires.1 p e
 
   -- the choice is one of its
-  own-choice : b.args.choice < count p.heads (get_or b.args.member.now 0 0)
-  own-choice =
+  own_choice : b.args.choice < count p.heads (get_or b.args.member.now 0 0)
+  own_choice =
       subst (λ (h : ℕ). b.args.choice < count h (get_or b.args.member.now 0 0))
-      (ap (λ (r : Rule). length r.head) (sym own-rule) ∙ heads_are (book b) p) b.requires.7
+      (ap (λ (r : Rule). length r.head) (sym own_rule) ∙ heads_are (book b) p) b.requires.7
 
 small : (c : Start) → c.args.choice < most_choices
 small c =
     let p : Parts = parts_at (book c) (get_or c.args.starts.now c.args.rule 0) in
     let few = count_few p.heads (get_or c.args.member.now 0 0) (in_book_lem c p refl).few_head c.requires.3.few in
-    omega (arith, few, own-choice c p refl)
+    omega (arith, few, own_choice c p refl)
 
 pub overflow_add-result : goal.overflow_add-result
 overflow_add-result c =
@@ -73,7 +72,7 @@ rule_at-requires c =
 pub after_covered-from-requires : goal.after_covered-from-requires
 after_covered-from-requires c =
     let e = c.rule_at.ensures in
-    (c.requires.3, in_book_lem c.before.before.before.before.before.before.before.before.before.before.before _ e, c.requires.4, c.requires.5, own-choice c.before.before.before.before.before.before.before.before.before.before.before _ e, c.requires.8)
+    (c.requires.3, in_book_lem c.before.before.before.before.before.before.before.before.before.before.before _ e, c.requires.4, c.requires.5, own_choice c.before.before.before.before.before.before.before.before.before.before.before _ e, c.requires.8)
 
 pub overflow_add-choice : goal.overflow_add-choice
 overflow_add-choice c =
@@ -85,4 +84,4 @@ returns c =
     (λ (rule : Rule).
     GoesOn rule (question_of stored c.args.member.now) (held_from c.args.work.now first_at c.args.members)
     c.args.choice c.after_covered-from.result)
-    (own-rule c.before.before.before.before.before.before.before.before.before.before.before.before.before _ c.rule_at.ensures) c.after_covered-from.ensures
+    (own_rule c.before.before.before.before.before.before.before.before.before.before.before.before.before _ c.rule_at.ensures) c.after_covered-from.ensures

@@ -1,6 +1,5 @@
 -- `explore::skipping::prefix_covered` meets its contract: where the digits cannot be sent the answer is no, else whether
 -- the question that they settle is covered.
-use borrow.Author.Rules.{rules}
 use Rattle.covering.proofs.Tests.{not_true, not_false}
 use Rattle.explore.proofs.PassedOver.{unmet_covered, met_covered, settled_sound}
 use Rattle.explore.proofs.skipping.prefix_covered.Goals as goal

@@ -5,12 +5,12 @@ use native.Mathlib.Omega.{arith}
 use mathlib.Core.Path.{◌≡◌, refl, sym, ap, ◌∙◌, subst}
 use mathlib.Core.Bool.{cond}
 use mathlib.Core.List.{List}
-use Prim.Native.Nat.{ℕ, ◌-◌, ◌≤◌, ◌<◌}
-use lib.ListN.{get_or, drop}
+use Prim.Native.Nat.{ℕ, ◌≤◌, ◌<◌}
+use lib.ListN.{get_or}
 use Rattle.covering.specs.Term.{Question}
 use Rattle.covering.specs.Record.{stored, question_of}
 use Rattle.reading.specs.Header.{rules as rules_of}
-use Rattle.reading.specs.Book.{rule_at, rules_from, rule_start, book_of}
+use Rattle.reading.specs.Book.{rule_at, rule_start}
 use Rattle.reading.proofs.Reading.{rules_left}
 use Rattle.lister.specs.Listing.{FoundIs}
 use Rattle.records.specs.Relations.{relations_of}
@@ -31,32 +31,32 @@ In-loop = lts.In-loop tie.the-claims reads.Pre reads.Post goal.the-invariant-loo
 abbrev After-next_by : Type 0
 After-next_by = lts.After-next_by tie.the-claims reads.Pre reads.Post goal.the-invariant-loop-rule goal.the-decreases-loop-rule
 
-abbrev book-of : In-loop → List ℕ
-book-of c = c.args.book.now
+abbrev book_of_here : In-loop → List ℕ
+book_of_here c = c.args.book.now
 
 abbrev member_of : In-loop → Question
 member_of c = question_of stored c.args.member.now
 
 -- the rule of this turn is one of the book's
-within : (c : In-loop) → c.loop-rule.rule < rules_of (book-of c)
+within : (c : In-loop) → c.loop-rule.rule < rules_of (book_of_here c)
 within c = omega (arith, c.loop-rule-test.true, c.requires.1)
 
 -- it starts where `starts` says
 start_of : (c : In-loop)
-    → get_or c.args.starts.now c.loop-rule.rule 0 ≡ rule_start (book-of c) c.loop-rule.rule
+    → get_or c.args.starts.now c.loop-rule.rule 0 ≡ rule_start (book_of_here c) c.loop-rule.rule
 start_of c =
-    start_is (book-of c) c.requires.0 c.args.starts.now c.requires.2 _ (within c)
+    start_is (book_of_here c) c.requires.0 c.args.starts.now c.requires.2 _ (within c)
 
 -- what was found for it
 found : (c : After-next_by)
     → FoundIs
-    (next apart (rule_at (book-of c.before.before.before.before.before) (rule_start (book-of c.before.before.before.before.before) c.loop-rule.rule))
+    (next apart (rule_at (book_of_here c.before.before.before.before.before) (rule_start (book_of_here c.before.before.before.before.before) c.loop-rule.rule))
     (member_of c.before.before.before.before.before) c.loop-rule.choice)
     c.loop-rule.out c.next_by-found.result c.next_by-found.new.out
 found c =
     subst
     (λ (s : ℕ).
-    FoundIs (next apart (rule_at (book-of c.before.before.before.before.before) s) (member_of c.before.before.before.before.before) c.loop-rule.choice) c.loop-rule.out
+    FoundIs (next apart (rule_at (book_of_here c.before.before.before.before.before) s) (member_of c.before.before.before.before.before) c.loop-rule.choice) c.loop-rule.out
     c.next_by-found.result c.next_by-found.new.out)
     (start_of c.before.before.before.before.before) c.next_by-found.ensures.0
 
@@ -69,35 +69,35 @@ loop-rule-init c =
     (ap (next_among (question_of stored a.member.now) a.k a.from) (rules_left a.book.now a.k), refl)
 
 pub offset_bounds-starts-rule : goal.offset_bounds-starts-rule
-offset_bounds-starts-rule c = omega (arith, within c.before, rules_few (book-of c.before) c.requires.0)
+offset_bounds-starts-rule c = omega (arith, within c.before, rules_few (book_of_here c.before) c.requires.0)
 
 pub bounds-starts-rule : goal.bounds-starts-rule
 bounds-starts-rule c =
-    start_inside (book-of c.before.before) c.requires.0 c.args.starts.now c.requires.2 _ (within c.before.before)
+    start_inside (book_of_here c.before.before) c.requires.0 c.args.starts.now c.requires.2 _ (within c.before.before)
 
 pub offset_bounds-heads-rule : goal.offset_bounds-heads-rule
 offset_bounds-heads-rule c =
-    omega (arith, within c.before.before, rules_few (book-of c.before.before) c.requires.0)
+    omega (arith, within c.before.before, rules_few (book_of_here c.before.before) c.requires.0)
 
 pub bounds-heads-rule : goal.bounds-heads-rule
 bounds-heads-rule c =
-    omega (arith, within c.before.before.before, rules_few (book-of c.before.before.before) c.requires.0, c.requires.5.size)
+    omega (arith, within c.before.before.before, rules_few (book_of_here c.before.before.before) c.requires.0, c.requires.5.size)
 
 pub overflow_add-rule : goal.overflow_add-rule
 overflow_add-rule c =
-    omega (arith, within c.before.before.before, rules_few (book-of c.before.before.before) c.requires.0)
+    omega (arith, within c.before.before.before, rules_few (book_of_here c.before.before.before) c.requires.0)
 
 pub offset_bounds-heads-rule-in-loop-rule : goal.offset_bounds-heads-rule-in-loop-rule
 offset_bounds-heads-rule-in-loop-rule c =
-    omega (arith, within c.before.before.before, rules_few (book-of c.before.before.before) c.requires.0)
+    omega (arith, within c.before.before.before, rules_few (book_of_here c.before.before.before) c.requires.0)
 
 pub bounds-heads-rule-in-loop-rule : goal.bounds-heads-rule-in-loop-rule
 bounds-heads-rule-in-loop-rule c =
-    omega (arith, within c.before.before.before.before, rules_few (book-of c.before.before.before.before) c.requires.0, c.requires.5.size)
+    omega (arith, within c.before.before.before.before, rules_few (book_of_here c.before.before.before.before) c.requires.0, c.requires.5.size)
 
 pub next_by-found-requires : goal.next_by-found-requires
 next_by-found-requires c =
-    let B = book-of c.before.before.before.before.before in
+    let B = book_of_here c.before.before.before.before.before in
     let k = c.loop-rule.rule in
     let at = sym (start_of c.before.before.before.before.before) in (
       start_fits B c.requires.0 c.args.starts.now c.requires.2 _ (within c.before.before.before.before.before),
@@ -113,14 +113,14 @@ pub returns-then-found : goal.returns-then-found
 returns-then-found c =
     let yes = c.if-found.true in
     let l = c.loop-rule in (
-      told_same l.invariant.0 l.invariant.1 (among_found (book-of c.before.before.before.before.before.before.before) (member_of c.before.before.before.before.before.before.before) _ _ (within c.before.before.before.before.before.before.before) _ _ _ (found c.before.before) yes),
+      told_same l.invariant.0 l.invariant.1 (among_found (book_of_here c.before.before.before.before.before.before.before) (member_of c.before.before.before.before.before.before.before) _ _ (within c.before.before.before.before.before.before.before) _ _ _ (found c.before.before) yes),
       c.next_by-found.ensures.1,
     )
 
 pub loop-rule-preserved : goal.loop-rule-preserved
 loop-rule-preserved c =
     let l = c.loop-rule in
-    let later = among_later (book-of c.before.before.before.before.before.before.before) (member_of c.before.before.before.before.before.before.before) _ _ (within c.before.before.before.before.before.before.before) _ _ _ (found c.before.before) c.if-found.false in
+    let later = among_later (book_of_here c.before.before.before.before.before.before.before) (member_of c.before.before.before.before.before.before.before) _ _ (within c.before.before.before.before.before.before.before) _ _ _ (found c.before.before) c.if-found.false in
     (l.invariant.0 ∙ later.0, later.1 ∙ l.invariant.1)
 
 pub returns : goal.returns

@@ -1,25 +1,12 @@
 -- `explore::taking_up::next_rewriting` meets its contract. The loop's invariant: what is sought is the first rewriting
 -- from the rule at hand on. The measure is the number of rules left.
-use borrow.Author.Rules.{rules}
-use native.Mathlib.Omega.{arith}
-use mathlib.Core.Path.{◌≡◌, refl, sym, ap, ◌∙◌, subst}
-use mathlib.Core.Bool.{cond}
-use mathlib.Core.List.{List}
-use Prim.Native.Nat.{ℕ, ◌-◌, ◌≤◌, ◌<◌}
-use lib.ListN.{get_or, drop}
-use Rattle.covering.specs.Term.{Question}
+use mathlib.Core.Path.{◌≡◌}
+use Prim.Native.Nat.{◌-◌}
+use lib.ListN.{drop}
 use Rattle.covering.specs.Record.{stored, question_of}
 use Rattle.reading.specs.Header.{rules as rules_of}
-use Rattle.reading.specs.Book.{rule_at, rules_from, rule_start, book_of}
-use Rattle.reading.proofs.Reading.{rules_left}
-use Rattle.lister.specs.Listing.{FoundIs}
-use Rattle.records.specs.Relations.{relations_of}
-use Rattle.unify.specs.Unknowns.{has_unknowns}
-use Rattle.unification.specs.Step.{next}
-use Rattle.exploration.specs.Run.{apart}
+use Rattle.reading.specs.Book.{rules_from, rule_start, book_of}
 use Rattle.explore.specs.Taking.{next_among}
-use Rattle.explore.proofs.Among.{told_same, among_none, among_found, among_later, rules_few}
-use Rattle.explore.proofs.Among.{start_is, start_fits, start_inside, parts_in}
 use Rattle.explore.proofs.taking_up.next_rewriting.Given as goal
 
 abbrev pub invariant-loop-rule : goal.invariant-loop-rule

@@ -1,5 +1,4 @@
 -- `explore::whole_run::answer_records` meets its contract: what the header says is what the question has.
-use borrow.Author.Rules.{rules}
 use native.Mathlib.Omega.{arith}
 use mathlib.Core.Path.{◌≡◌, sym, ap, ◌∙◌}
 use Rattle.reading.specs.declared.Header.{Header}

@@ -1,18 +1,16 @@
 -- `explore::whole_run::explore_all` meets its contract. The loop's invariant is `Running`; the measure is the number of
 -- explorations left.
-use borrow.Author.Rules.{rules}
 use native.Mathlib.Omega.{arith}
 use mathlib.Core.Path.{◌≡◌, sym, ◌∙◌, subst}
 use mathlib.Core.List.{List}
-use Prim.Native.Nat.{ℕ, ◌-◌, ◌<◌}
+use Prim.Native.Nat.{ℕ, ◌<◌}
 use lib.ListN.{length}
 use Rattle.reading.specs.Book.{book_of}
 use Rattle.reading.proofs.SoundBook.{sound_long}
 use Rattle.reading.proofs.Fits.{allowed_few}
-use Rattle.admit.specs.Sets.{Beside}
 use Rattle.explore.specs.Exploring.{SetsLeft}
 use Rattle.explore.proofs.Among.{rules_read}
-use Rattle.explore.proofs.Running.{Running, first_sound, first_fits, first_running, first_beside, running_next}
+use Rattle.explore.proofs.Running.{first_sound, first_fits, first_running, first_beside, running_next}
 use Rattle.explore.proofs.Running.{outcome_complete, outcome_ten, outcome_refused, taken_working, member_of}
 use Rattle.explore.proofs.Running.{allowed_read}
 use Rattle.explore.proofs.whole_run.explore_all.Lts as lts
@@ -26,8 +24,8 @@ At-loop = lts.At-loop tie.the-claims reads.Pre reads.Post goal.the-invariant-loo
 abbrev Else2 : Type 0
 Else2 = lts.Else2 tie.the-claims reads.Pre reads.Post goal.the-invariant-loop-filled goal.the-decreases-loop-filled
 
-abbrev book-of : At-loop → List ℕ
-book-of c = c.args.book.now
+abbrev book_of_here : At-loop → List ℕ
+book_of_here c = c.args.book.now
 
 -- the array keeps its size
 sized : (c : At-loop) → length c.loop-filled.work ≡ length c.args.work.now
@@ -35,11 +33,11 @@ sized c = c.loop-filled.invariant.0.working.held.size ∙ sym c.requires.1
 
 -- the explorations allowed, as they were read
 allowed_is : (c : At-loop)
-    → c.read-header.result.allowed ≡ (book_of (book-of c)).allowed
-allowed_is c = allowed_read (book-of c) _ c.read-header.ensures
+    → c.read-header.result.allowed ≡ (book_of (book_of_here c)).allowed
+allowed_is c = allowed_read (book_of_here c) _ c.read-header.ensures
 
 -- there are explorations left
-more : (c : Else2) → c.loop-filled.taken < (book_of (book-of c.before.before.before)).allowed
+more : (c : Else2) → c.loop-filled.taken < (book_of (book_of_here c.before.before.before)).allowed
 more c = omega (arith, c.if-taken-allowed.false, c.loop-filled.invariant.0.few, allowed_is c.before.before.before)
 
 pub read-header-requires : goal.read-header-requires
@@ -55,13 +53,12 @@ pub first_member-first-requires : goal.first_member-first-requires
 first_member-first-requires c = (c.requires.0, c.requires.2)
 
 pub head_sets-heads-requires : goal.head_sets-heads-requires
-head_sets-heads-requires c =
-    (
-      c.requires.0,
-      omega (arith, rules_read c.args.book.now c.requires.0 _ c.read-header.ensures),
-      c.starts-starts.ensures,
-      c.requires.2,
-    )
+head_sets-heads-requires c = (
+  c.requires.0,
+  omega (arith, rules_read c.args.book.now c.requires.0 _ c.read-header.ensures),
+  c.starts-starts.ensures,
+  c.requires.2,
+)
 
 pub append-len-requires : goal.append-len-requires
 append-len-requires c =
@@ -90,14 +87,14 @@ shape_of-work-then-taken-allowed c = sized c.before.before.before.before
 
 pub returns-then-taken-allowed : goal.returns-then-taken-allowed
 returns-then-taken-allowed c =
-    outcome_ten (book-of c.before.before.before.before) c.loop-filled.invariant.0 c.loop-filled-test.true (c.if-taken-allowed.true ∙ allowed_is c.before.before.before.before)
+    outcome_ten (book_of_here c.before.before.before.before) c.loop-filled.invariant.0 c.loop-filled-test.true (c.if-taken-allowed.true ∙ allowed_is c.before.before.before.before)
 
 pub oldest-member-requires : goal.oldest-member-requires
 oldest-member-requires c = (c.loop-filled.invariant.0.working, c.loop-filled-test.true)
 
 pub overflow_add-taken : goal.overflow_add-taken
 overflow_add-taken c =
-    omega (arith, c.loop-filled.invariant.0.few, allowed_few (book-of c.before.before.before.before.before) c.requires.0)
+    omega (arith, c.loop-filled.invariant.0.few, allowed_few (book_of_here c.before.before.before.before.before) c.requires.0)
 
 pub overflow_add-filled : goal.overflow_add-filled
 overflow_add-filled c = omega (arith, c.loop-filled-test.true, c.loop-filled.invariant.0.working.few)
@@ -107,10 +104,10 @@ explore-explored-requires c =
     let s = c.requires.0 in
     let old = c.oldest-member.ensures in (
       s,
-      omega (arith, rules_read (book-of c.before.before.before.before.before.before.before.before.before.before.before) s _ c.read-header.ensures),
+      omega (arith, rules_read (book_of_here c.before.before.before.before.before.before.before.before.before.before.before) s _ c.read-header.ensures),
       c.starts-starts.ensures,
-      member_of (book-of c.before.before.before.before.before.before.before.before.before.before.before) c.loop-filled.invariant.0 c.loop-filled-test.true (more c.before.before.before.before.before.before.before.before) s old.0 old.1 _ old.2,
-      taken_working (book-of c.before.before.before.before.before.before.before.before.before.before.before) c.loop-filled.invariant.0 c.loop-filled-test.true (more c.before.before.before.before.before.before.before.before),
+      member_of (book_of_here c.before.before.before.before.before.before.before.before.before.before.before) c.loop-filled.invariant.0 c.loop-filled-test.true (more c.before.before.before.before.before.before.before.before) s old.0 old.1 _ old.2,
+      taken_working (book_of_here c.before.before.before.before.before.before.before.before.before.before.before) c.loop-filled.invariant.0 c.loop-filled-test.true (more c.before.before.before.before.before.before.before.before),
       c.answer_records-answers.ensures,
       c.requires.2,
       c.head_sets-heads.ensures,
@@ -125,7 +122,7 @@ pub loop-filled-preserved : goal.loop-filled-preserved
 loop-filled-preserved c =
     let old = c.oldest-member.ensures in
     let is = c.in-Passed.is in (
-      running_next (book-of c.before.before.before.before.before.before.before.before.before.before.before.before.before.before.before) c.loop-filled.invariant.0 c.loop-filled-test.true (more c.before.before.before.before.before.before.before.before.before.before.before.before) c.requires.0 old.0 old.1 _ old.2
+      running_next (book_of_here c.before.before.before.before.before.before.before.before.before.before.before.before.before.before.before) c.loop-filled.invariant.0 c.loop-filled-test.true (more c.before.before.before.before.before.before.before.before.before.before.before.before) c.requires.0 old.0 old.1 _ old.2
           c.explore-explored.new.work c.explore-explored.result c.explore-explored.ensures.0 _ is,
       subst (SetsLeft c.explore-explored.new.sets c.explore-explored.new.work) is c.explore-explored.ensures.1,
     )
@@ -137,7 +134,7 @@ shape_of-work-in-Refused c =
 pub returns-in-Refused : goal.returns-in-Refused
 returns-in-Refused c =
     let old = c.oldest-member.ensures in
-    outcome_refused (book-of c.before.before.before.before.before.before.before.before.before.before.before.before.before.before.before) c.loop-filled.invariant.0 c.loop-filled-test.true (more c.before.before.before.before.before.before.before.before.before.before.before.before) c.requires.0 old.0 old.1 _
+    outcome_refused (book_of_here c.before.before.before.before.before.before.before.before.before.before.before.before.before.before.before) c.loop-filled.invariant.0 c.loop-filled-test.true (more c.before.before.before.before.before.before.before.before.before.before.before.before) c.requires.0 old.0 old.1 _
     old.2 c.explore-explored.new.work c.explore-explored.result c.explore-explored.ensures.0 _ c.in-Refused.is
 
 pub shape_of-work : goal.shape_of-work
@@ -145,4 +142,4 @@ shape_of-work c = sized c.before.before.before
 
 pub returns : goal.returns
 returns c =
-    outcome_complete (book-of c.before.before.before) c.loop-filled.invariant.0 (allowed_few (book-of c.before.before.before) c.requires.0) c.loop-filled-test.false
+    outcome_complete (book_of_here c.before.before.before) c.loop-filled.invariant.0 (allowed_few (book_of_here c.before.before.before) c.requires.0) c.loop-filled-test.false

@@ -1,5 +1,4 @@
 -- `explore::whole_run::first_member` meets its contract: the record's question is the book's.
-use borrow.Author.Rules.{rules}
 use mathlib.Core.Path.{sym, ap, ◌∙◌, subst}
 use mathlib.Core.List.{List}
 use Prim.Native.Nat.{ℕ}

@@ -1,8 +1,7 @@
 -- `explore::whole_run::run` meets its contract: refusal 1 first, then the book's own, which the copy to the new form tells,
 -- then the run.
-use borrow.Author.Rules.{rules}
 use native.Mathlib.Omega.{arith}
-use mathlib.Core.Path.{◌≡◌, sym, subst}
+use mathlib.Core.Path.{sym, subst}
 use Prim.Native.Nat.{ℕ}
 use lib.Seq.{length-take-le}
 use Rattle.reading.specs.Verdict.{verdict}

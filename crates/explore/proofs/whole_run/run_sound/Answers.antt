@@ -1,5 +1,4 @@
 -- `explore::whole_run::run_sound` meets its contract: complete, the array's members are put into the output.
-use borrow.Author.Rules.{rules}
 use native.Mathlib.Omega.{arith}
 use mathlib.Core.Path.{◌≡◌, refl, ◌∙◌, ap, subst}
 use Rattle.reading.specs.declared.Header.{Header}

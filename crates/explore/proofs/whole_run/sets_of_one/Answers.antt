@@ -1,5 +1,4 @@
 -- `explore::whole_run::sets_of_one` meets its contract: the first set is stored.
-use borrow.Author.Rules.{rules}
 use mathlib.Core.Path.{refl}
 use Rattle.explore.proofs.whole_run.sets_of_one.Goals as goal
 

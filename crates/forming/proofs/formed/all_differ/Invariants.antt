@@ -1,14 +1,9 @@
 -- `forming::formed::all_differ` meets its contract. The loop's invariant: if of the atoms from here on none is dropped,
 -- none of them all is, and these are sound. The measure is their number.
-use borrow.Author.Rules.{rules}
-use native.Mathlib.Omega.{arith}
-use mathlib.Core.Path.{◌≡◌, sym, ◌∙◌}
-use mathlib.Core.Bool.{true, false, true≢false}
+use mathlib.Core.Path.{◌≡◌}
 use Rattle.covering.specs.Form.{dedup}
 use Rattle.covering.specs.Record.{stored, atoms_at, question_of}
 use Rattle.covering.specs.Buffer.{AtomsIn}
-use Rattle.covering.proofs.Within.{sound_in}
-use Rattle.forming.proofs.Passing.{in_next, differ_none, differ_next}
 use Rattle.forming.proofs.formed.all_differ.Given as goal
 
 abbrev pub invariant-loop-left : goal.invariant-loop-left

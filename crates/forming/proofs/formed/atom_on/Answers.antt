@@ -1,11 +1,10 @@
 -- `forming::formed::atom_on` meets its contract. The loop's invariant: the bytes passed are those of the atom on the
 -- table. The measure is the number of bytes left.
-use borrow.Author.Rules.{rules}
 use native.Mathlib.Omega.{arith}
-use mathlib.Core.Path.{◌≡◌, refl, sym, ◌∙◌}
-use Prim.Native.Nat.{ℕ, ◌-◌, ◌≤◌, ◌<◌}
+use mathlib.Core.Path.{refl, sym, ◌∙◌}
+use Prim.Native.Nat.{◌<◌}
 use borrow.Author.Count.{below_more}
-use lib.ListN.{length, get_or, length-set}
+use lib.ListN.{length, length-set}
 use lib.Seq.{ext_get_or}
 use Rattle.covering.specs.Term.{on_atom}
 use Rattle.covering.specs.Record.{stored, atom_at, atom_bytes}
@@ -16,8 +15,7 @@ use Rattle.forming.proofs.AtomBytes.{place_byte, atom_on_relation, atom_on_place
 use Rattle.forming.proofs.formed.atom_on.Goals as goal
 
 pub loop-j-init : goal.loop-j-init
-loop-j-init c =
-    (
+loop-j-init c = (
   omega arith,
   omega arith,
   refl,

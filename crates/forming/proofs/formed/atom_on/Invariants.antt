@@ -1,18 +1,11 @@
 -- `forming::formed::atom_on` meets its contract. The loop's invariant: the bytes passed are those of the atom on the
 -- table. The measure is the number of bytes left.
-use borrow.Author.Rules.{rules}
-use native.Mathlib.Omega.{arith}
-use mathlib.Core.Path.{◌≡◌, refl, sym, ◌∙◌}
+use mathlib.Core.Path.{◌≡◌}
 use Prim.Native.Nat.{ℕ, ◌-◌, ◌≤◌, ◌<◌}
-use borrow.Author.Count.{below_more}
-use lib.ListN.{length, get_or, length-set}
-use lib.Seq.{ext_get_or}
+use lib.ListN.{length, get_or}
 use Rattle.covering.specs.Term.{on_atom}
 use Rattle.covering.specs.Record.{stored, atom_at, atom_bytes}
 use Rattle.forming.specs.Building.{sub_of}
-use Rattle.covering.proofs.Lengths.{atom_long}
-use Rattle.covering.proofs.RoundTrip.{stored_apart}
-use Rattle.forming.proofs.AtomBytes.{place_byte, atom_on_relation, atom_on_place, set_agrees}
 use Rattle.forming.proofs.formed.atom_on.Given as goal
 
 abbrev pub invariant-loop-j : goal.invariant-loop-j

@@ -1,22 +1,14 @@
 -- `forming::formed::drop_equal` meets its contract. The loop's invariant: dropping equal atoms is adding those from
 -- here on to those kept, each unless it is there. The measure is their number, and there is room for them.
-use borrow.Author.Rules.{rules}
-use native.Mathlib.Omega.{arith}
-use mathlib.Core.Path.{◌≡◌, sym, ap, ◌∙◌, subst}
-use mathlib.Core.List.{List, []}
+use mathlib.Core.Path.{◌≡◌}
+use mathlib.Core.List.{List}
 use Prim.Native.Nat.{ℕ, ◌+◌, ◌*◌, ◌-◌, ◌≤◌}
-use lib.ListN.{get_or}
 use Rattle.covering.specs.Term.{Question, eq_atom}
 use Rattle.covering.specs.Form.{dedup}
 use Rattle.covering.specs.Record.{stored, atoms_at, question_of}
-use Rattle.covering.specs.Buffer.{held_in, AtomsIn, record_room}
+use Rattle.covering.specs.Buffer.{AtomsIn, record_room}
 use Rattle.forming.specs.Building.{added_all}
-use Rattle.covering.proofs.Within.{sound_in}
-use Rattle.covering.proofs.RoundTrip.{stored_apart}
-use Rattle.forming.proofs.Leftward.{dedup_leftward}
-use Rattle.covering.proofs.Fitting.{atom_fits}
-use Rattle.forming.proofs.Passing.{in_next, added_done, added_next}
-use Rattle.forming.proofs.Growing.{Grows, grows_none, grows_length, grows_room, grows_added}
+use Rattle.forming.proofs.Growing.{Grows}
 use Rattle.forming.proofs.formed.drop_equal.Given as goal
 
 -- what is known with `left` atoms from i on yet to come

@@ -1,12 +1,10 @@
 -- `forming::formed::has_atom` meets its contract. The loop's invariant: the atom is among them all exactly where it is
 -- among those from here on, and these are sound. The measure is their number.
-use native.Mathlib.Omega.{arith}
-use mathlib.Core.Path.{◌≡◌, refl, sym, ◌∙◌}
+use mathlib.Core.Path.{◌≡◌}
 use Rattle.covering.specs.Term.{eq_atom}
 use Rattle.covering.specs.Record.{stored, atom_at, atoms_at}
 use Rattle.covering.specs.Buffer.{AtomsIn}
 use Rattle.forming.specs.Building.{has}
-use Rattle.forming.proofs.Passing.{in_next, some_none, some_hit, some_miss}
 use Rattle.forming.proofs.formed.has_atom.Given as goal
 
 abbrev pub invariant-loop-left : goal.invariant-loop-left

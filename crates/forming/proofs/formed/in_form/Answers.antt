@@ -1,6 +1,5 @@
 -- `forming::formed::in_form` meets its contract: with equal atoms dropped, if there are any, the record is sound and holds
 -- just the others, and these renumbered are the form.
-use borrow.Author.Rules.{rules}
 use native.Mathlib.Omega.{arith}
 use mathlib.Core.Path.{ap, sym, ◌∙◌}
 use Rattle.covering.specs.Form.{renumber, form}

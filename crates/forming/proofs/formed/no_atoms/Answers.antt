@@ -1,5 +1,4 @@
 -- `forming::formed::no_atoms` meets its contract: a count of 0 and then 255 alone is a record of no atoms.
-use borrow.Author.Rules.{rules}
 use mathlib.Core.Path.{refl}
 use Rattle.covering.specs.Record.{record_bytes}
 use Rattle.covering.specs.Buffer.{held_in}

@@ -3,20 +3,15 @@
 -- left.
 use native.Mathlib.Omega.{arith}
 use native.Mathlib.Nat.{add-zero}
-use mathlib.Core.Path.{◌≡◌, refl, sym, ◌∙◌, subst}
-use mathlib.Core.List.{List}
-use Prim.Native.Nat.{ℕ, ◌+◌, ◌-◌, ◌≤◌}
-use lib.Dec.{T}
-use lib.ListN.{length}
-use Rattle.covering.specs.Record.{stored, args_at, atom_at, used_first}
-use Rattle.forming.specs.Building.{all_seen, NumberTable}
+use mathlib.Core.Path.{refl, sym, ◌∙◌, subst}
+use Rattle.covering.specs.Record.{stored, atom_at}
+use Rattle.forming.specs.Building.{NumberTable}
 use Rattle.covering.proofs.Bytes.{used_more, term_constant, atom_used}
 use Rattle.forming.proofs.Renaming.{seen_end, seen_more, seen_done}
 use Rattle.forming.proofs.formed.number_atom.Goals as goal
 
 pub loop-j-init : goal.loop-j-init
-loop-j-init c =
-    (
+loop-j-init c = (
   omega arith,
   omega arith,
   rw add-zero (atom_used stored _ _ c.requires.1.sound),
@@ -29,14 +24,13 @@ shape_of-table-then-t c = c.loop-j.invariant.3 ∙ sym c.requires.0
 
 pub returns-then-t : goal.returns-then-t
 unfolding atom_at
-returns-then-t c =
-    (
-      omega arith,
-      λ S k.
-          let r = c.loop-j.invariant.4 S k in
-          let all = r.2 ∙ seen_end _ _ _ 6 (omega arith) r.0 c.if-t.true in
-          subst (λ M. NumberTable M c.loop-j.table c.loop-j.given) (sym all) r.1,
-    )
+returns-then-t c = (
+  omega arith,
+  λ S k.
+      let r = c.loop-j.invariant.4 S k in
+      let all = r.2 ∙ seen_end _ _ _ 6 (omega arith) r.0 c.if-t.true in
+      subst (λ M. NumberTable M c.loop-j.table c.loop-j.given) (sym all) r.1,
+)
 
 pub number_term-given-requires : goal.number_term-given-requires
 number_term-given-requires c =
@@ -61,11 +55,10 @@ shape_of-table c = c.loop-j.invariant.3 ∙ sym c.requires.0
 
 pub returns : goal.returns
 unfolding atom_at
-returns c =
-    (
-      omega arith,
-      λ S k.
-          let r = c.loop-j.invariant.4 S k in
-          let all = r.2 ∙ seen_done _ _ _ r.0 (omega arith) in
-          subst (λ M. NumberTable M c.loop-j.table c.loop-j.given) (sym all) r.1,
-    )
+returns c = (
+  omega arith,
+  λ S k.
+      let r = c.loop-j.invariant.4 S k in
+      let all = r.2 ∙ seen_done _ _ _ r.0 (omega arith) in
+      subst (λ M. NumberTable M c.loop-j.table c.loop-j.given) (sym all) r.1,
+)

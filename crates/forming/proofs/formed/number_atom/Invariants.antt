@@ -1,17 +1,13 @@
 -- `forming::formed::number_atom` meets its contract. The loop's invariant: to see all places is to see those from the
 -- j-th on, after the variables that the table has now, which is as long as it was. The measure is the number of places
 -- left.
-use native.Mathlib.Omega.{arith}
-use native.Mathlib.Nat.{add-zero}
-use mathlib.Core.Path.{◌≡◌, refl, sym, ◌∙◌, subst}
+use mathlib.Core.Path.{◌≡◌}
 use mathlib.Core.List.{List}
 use Prim.Native.Nat.{ℕ, ◌+◌, ◌-◌, ◌≤◌}
 use lib.Dec.{T}
 use lib.ListN.{length}
-use Rattle.covering.specs.Record.{stored, args_at, atom_at, used_first}
+use Rattle.covering.specs.Record.{stored, args_at, used_first}
 use Rattle.forming.specs.Building.{all_seen, NumberTable}
-use Rattle.covering.proofs.Bytes.{used_more, term_constant, atom_used}
-use Rattle.forming.proofs.Renaming.{seen_end, seen_more, seen_done}
 use Rattle.forming.proofs.formed.number_atom.Given as goal
 
 abbrev pub invariant-loop-j : goal.invariant-loop-j

@@ -1,6 +1,5 @@
 -- `forming::formed::number_term` meets its contract: a constant changes nothing, nor does a variable that has a
 -- number; any other gets the next one.
-use borrow.Author.Rules.{rules}
 use native.Mathlib.Omega.{arith}
 use lib.ListN.{length-set}
 use Rattle.forming.proofs.Renaming.{seen_constant, seen_again, seen_first}

@@ -2,15 +2,10 @@
 -- appearance are those that the table has now and then those of the atoms from here on. The measure is the number of
 -- these.
 use native.Mathlib.Omega.{arith}
-use mathlib.Core.Path.{◌≡◌, refl, sym, ap, ◌∙◌}
-use mathlib.Core.List.{List, []}
-use Prim.Native.Nat.{ℕ, ◌+◌, ◌*◌, ◌≤◌}
-use lib.ListN.{length}
-use Rattle.covering.specs.Term.{terms}
-use Rattle.covering.specs.Form.{firsts}
-use Rattle.covering.specs.Record.{stored, atoms_at, question_of}
-use Rattle.covering.specs.Buffer.{AtomsIn}
-use Rattle.forming.specs.Building.{all_seen, new_number, NumberTable}
+use mathlib.Core.Path.{refl, sym, ap, ◌∙◌}
+use mathlib.Core.List.{[]}
+use Rattle.covering.specs.Record.{stored, question_of}
+use Rattle.forming.specs.Building.{new_number}
 use Rattle.covering.proofs.Within.{sound_in}
 use Rattle.forming.proofs.Leftward.{firsts_leftward}
 use Rattle.forming.proofs.Renaming.{numbered_none}
@@ -30,12 +25,11 @@ pub slice_bounds-number_atom-end : goal.slice_bounds-number_atom-end
 slice_bounds-number_atom-end c = sym c.loop-left.invariant.2
 
 pub number_atom-count-requires : goal.number_atom-count-requires
-number_atom-count-requires c =
-    (
-      c.loop-left.invariant.2,
-      (in_next stored _ _ _ c.loop-left.invariant.0 c.loop-left-test.true).0,
-      omega (arith, c.loop-left.invariant.1),
-    )
+number_atom-count-requires c = (
+  c.loop-left.invariant.2,
+  (in_next stored _ _ _ c.loop-left.invariant.0 c.loop-left-test.true).0,
+  omega (arith, c.loop-left.invariant.1),
+)
 
 pub loop-left-preserved : goal.loop-left-preserved
 loop-left-preserved c =

@@ -1,20 +1,15 @@
 -- `forming::formed::numbers_of` meets its contract. The loop's invariant: the record's variables in order of first
 -- appearance are those that the table has now and then those of the atoms from here on. The measure is the number of
 -- these.
-use native.Mathlib.Omega.{arith}
-use mathlib.Core.Path.{◌≡◌, refl, sym, ap, ◌∙◌}
-use mathlib.Core.List.{List, []}
+use mathlib.Core.Path.{◌≡◌}
+use mathlib.Core.List.{List}
 use Prim.Native.Nat.{ℕ, ◌+◌, ◌*◌, ◌≤◌}
 use lib.ListN.{length}
 use Rattle.covering.specs.Term.{terms}
 use Rattle.covering.specs.Form.{firsts}
 use Rattle.covering.specs.Record.{stored, atoms_at, question_of}
 use Rattle.covering.specs.Buffer.{AtomsIn}
-use Rattle.forming.specs.Building.{all_seen, new_number, NumberTable}
-use Rattle.covering.proofs.Within.{sound_in}
-use Rattle.forming.proofs.Leftward.{firsts_leftward}
-use Rattle.forming.proofs.Renaming.{numbered_none}
-use Rattle.forming.proofs.Passing.{in_next, terms_none, terms_next}
+use Rattle.forming.specs.Building.{all_seen, NumberTable}
 use Rattle.forming.proofs.formed.numbers_of.Given as goal
 
 abbrev pub invariant-loop-left : goal.invariant-loop-left

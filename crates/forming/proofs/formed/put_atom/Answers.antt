@@ -1,10 +1,9 @@
 -- `forming::formed::put_atom` meets its contract. The loop's invariant: the bytes passed are copied to the place after
 -- the record's own atoms, whose count is one more already, and the record is as long as it was.
 -- The measure is the number of bytes left.
-use borrow.Author.Rules.{rules}
 use native.Mathlib.Omega.{arith}
 use mathlib.Core.Path.{◌≡◌, sym, ap₂, ◌∙◌}
-use Prim.Native.Nat.{ℕ, ◌+◌, ◌-◌, ◌≤◌}
+use Prim.Native.Nat.{ℕ, ◌+◌}
 use lib.ListN.{length, get_or, set, drop, length-set}
 use lib.Seq.{paste, paste-zero}
 use Rattle.covering.specs.Record.{stored}

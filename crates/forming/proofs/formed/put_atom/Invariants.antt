@@ -1,19 +1,10 @@
 -- `forming::formed::put_atom` meets its contract. The loop's invariant: the bytes passed are copied to the place after
 -- the record's own atoms, whose count is one more already, and the record is as long as it was.
 -- The measure is the number of bytes left.
-use borrow.Author.Rules.{rules}
-use native.Mathlib.Omega.{arith}
-use mathlib.Core.Path.{◌≡◌, sym, ap₂, ◌∙◌}
-use Prim.Native.Nat.{ℕ, ◌+◌, ◌-◌, ◌≤◌}
-use lib.ListN.{length, get_or, set, drop, length-set}
-use lib.Seq.{paste, paste-zero}
-use Rattle.covering.specs.Record.{stored}
-use Rattle.covering.specs.Buffer.{record_room}
-use Rattle.covering.proofs.Padded.{put_after}
-use Rattle.covering.proofs.Slices.{paste_next}
-use Rattle.covering.proofs.RoundTrip.{stored_apart}
-use Rattle.forming.proofs.AtomBytes.{atom_bytes_lem}
-use Rattle.forming.proofs.Growing.{room_length}
+use mathlib.Core.Path.{◌≡◌}
+use Prim.Native.Nat.{◌-◌, ◌≤◌}
+use lib.ListN.{length, drop}
+use lib.Seq.{paste}
 use Rattle.forming.proofs.formed.put_atom.Given as goal
 
 abbrev pub invariant-loop-byte : goal.invariant-loop-byte

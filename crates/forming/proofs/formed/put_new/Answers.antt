@@ -1,6 +1,6 @@
 -- `forming::formed::put_new` meets its contract: an atom that is there leaves the record as it is, any other is put.
 use native.Mathlib.Omega.{arith}
-use mathlib.Core.Path.{refl, sym, ap, ◌∙◌}
+use mathlib.Core.Path.{sym, ap, ◌∙◌}
 use Rattle.covering.specs.Term.{eq_atom}
 use Rattle.covering.specs.Record.{stored, question_of}
 use Rattle.covering.specs.Buffer.{held_in, record_room}

@@ -1,5 +1,4 @@
 -- `forming::formed::put_on` meets its contract: the atom's bytes on the table are put after the record's own.
-use borrow.Author.Rules.{rules}
 use mathlib.Core.Path.{ap, ◌∙◌}
 use mathlib.Core.List.{[], ◌∷◌, ◌++◌}
 use Rattle.covering.specs.Record.{stored, question_of}

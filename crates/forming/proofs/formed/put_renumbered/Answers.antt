@@ -2,17 +2,17 @@
 -- there is room for those from here on. The measure is the number of these.
 use borrow.Author.Rules.{rules}
 use native.Mathlib.Omega.{arith}
-use mathlib.Core.Path.{◌≡◌, refl, sym, ap, ◌∙◌}
+use mathlib.Core.Path.{◌≡◌, refl, ap, ◌∙◌}
 use lib.ListN.{length}
 use mathlib.Core.List.{[], ◌∷◌, ◌++◌}
-use Rattle.covering.specs.Term.{Question, on_question}
+use Rattle.covering.specs.Term.{on_question}
 use Rattle.covering.specs.Form.{numbering}
-use Rattle.covering.specs.Record.{stored, atom_at, atoms_at, question_of}
-use Rattle.covering.specs.Buffer.{held_in, AtomsIn, record_room}
+use Rattle.covering.specs.Record.{stored, atom_at, question_of}
+use Rattle.covering.specs.Buffer.{held_in, record_room}
 use Rattle.covering.proofs.Within.{sound_in}
 use Rattle.covering.proofs.RoundTrip.{stored_apart}
 use Rattle.forming.proofs.Passing.{in_next, split_done, split_in, split_next}
-use Rattle.forming.proofs.Growing.{Grows, grows_none, grows_length, grows_room, grows_on, table_numbers, table_fits}
+use Rattle.forming.proofs.Growing.{grows_none, grows_room, grows_on, table_numbers, table_fits}
 use Rattle.forming.proofs.formed.put_renumbered.Goals as goal
 
 pub bounds-member-0 : goal.bounds-member-0

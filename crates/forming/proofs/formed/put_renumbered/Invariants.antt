@@ -1,18 +1,12 @@
 -- `forming::formed::put_renumbered` meets its contract. The loop's invariant: the atoms passed are written renumbered, and
 -- there is room for those from here on. The measure is the number of these.
-use borrow.Author.Rules.{rules}
-use native.Mathlib.Omega.{arith}
-use mathlib.Core.Path.{◌≡◌, refl, sym, ap, ◌∙◌}
-use lib.ListN.{length}
-use mathlib.Core.List.{[], ◌∷◌, ◌++◌}
+use mathlib.Core.Path.{◌≡◌}
+use mathlib.Core.List.{◌++◌}
 use Rattle.covering.specs.Term.{Question, on_question}
 use Rattle.covering.specs.Form.{numbering}
-use Rattle.covering.specs.Record.{stored, atom_at, atoms_at, question_of}
-use Rattle.covering.specs.Buffer.{held_in, AtomsIn, record_room}
-use Rattle.covering.proofs.Within.{sound_in}
-use Rattle.covering.proofs.RoundTrip.{stored_apart}
-use Rattle.forming.proofs.Passing.{in_next, split_done, split_in, split_next}
-use Rattle.forming.proofs.Growing.{Grows, grows_none, grows_length, grows_room, grows_on, table_numbers, table_fits}
+use Rattle.covering.specs.Record.{stored, atoms_at, question_of}
+use Rattle.covering.specs.Buffer.{AtomsIn, record_room}
+use Rattle.forming.proofs.Growing.{Grows}
 use Rattle.forming.proofs.formed.put_renumbered.Given as goal
 
 abbrev pub invariant-loop-left : goal.invariant-loop-left

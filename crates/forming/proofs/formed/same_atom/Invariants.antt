@@ -1,13 +1,8 @@
 -- `forming::formed::same_atom` meets its contract. The loop's invariant: the bytes passed are the same. The measure is
 -- the number of bytes left.
-use native.Mathlib.Omega.{arith}
-use mathlib.Core.Path.{◌≡◌, sym}
+use mathlib.Core.Path.{◌≡◌}
 use Prim.Native.Nat.{ℕ, ◌+◌, ◌-◌, ◌≤◌, ◌<◌}
-use borrow.Author.Count.{below_more}
 use lib.ListN.{get_or}
-use Rattle.covering.specs.Record.{stored}
-use Rattle.covering.proofs.RoundTrip.{stored_apart}
-use Rattle.forming.proofs.AtomBytes.{same_bytes, other_bytes}
 use Rattle.forming.proofs.formed.same_atom.Given as goal
 
 abbrev pub invariant-loop-j : goal.invariant-loop-j

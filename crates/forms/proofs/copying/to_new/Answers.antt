@@ -1,7 +1,6 @@
 -- `forms::copying::to_new` meets its contract: too little room, then the book's own, then the copy.
-use borrow.Author.Rules.{rules}
 use native.Mathlib.Omega.{arith}
-use mathlib.Core.Path.{◌≡◌, ◌∙◌}
+use mathlib.Core.Path.{◌∙◌}
 use Prim.Native.Nat.{◌≤◌, ◌<◌}
 use lib.ListN.{length}
 use Rattle.covering.proofs.Putting.{kept}
@@ -24,8 +23,7 @@ returns-then-r-ne0 c =
     (to_new_own a.book.now _ enough (own_refusal a.book.now is c.if-r-ne0.true) ∙ own_told a.book.now is)
 
 pub put_book-requires : goal.put_book-requires
-put_book-requires c =
-    (
+put_book-requires c = (
   new_ready _ c.check-r.ensures c.if-r-ne0.false,
   new_own,
   omega

@@ -1,8 +1,7 @@
 -- `forms::copying::to_old` meets its contract: too little room, then the book's own, then what has no old form, then
 -- the copy.
-use borrow.Author.Rules.{rules}
 use native.Mathlib.Omega.{arith}
-use mathlib.Core.Path.{◌≡◌, ◌∙◌}
+use mathlib.Core.Path.{◌∙◌}
 use Prim.Native.Nat.{◌≤◌, ◌<◌}
 use lib.ListN.{length}
 use Rattle.covering.proofs.Putting.{kept}

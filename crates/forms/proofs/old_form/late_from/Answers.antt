@@ -3,7 +3,7 @@ use borrow.Author.Rules.{rules}
 use native.Mathlib.Omega.{arith}
 use borrow.Author.Tests.{not-true, not-false}
 use mathlib.Core.Path.{◌≡◌, sym, ◌∙◌, ap, ap₂}
-use Prim.Native.Nat.{ℕ, ◌+◌, ◌-◌, ◌≤◌}
+use Prim.Native.Nat.{ℕ, ◌+◌, ◌-◌}
 use Rattle.reading.specs.Verdict.{told}
 use Rattle.reading.specs.Copy.{term_old, late_from}
 use Rattle.forms.proofs.LateSteps.{late_end, late_found, late_next}

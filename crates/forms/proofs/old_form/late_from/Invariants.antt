@@ -1,12 +1,7 @@
 -- The places passed have no variable above 31, so the first is the first among those left. Assumes nothing.
-use borrow.Author.Rules.{rules}
-use native.Mathlib.Omega.{arith}
-use borrow.Author.Tests.{not-true, not-false}
-use mathlib.Core.Path.{◌≡◌, sym, ◌∙◌, ap, ap₂}
-use Prim.Native.Nat.{ℕ, ◌+◌, ◌-◌, ◌≤◌}
-use Rattle.reading.specs.Verdict.{told}
-use Rattle.reading.specs.Copy.{term_old, late_from}
-use Rattle.forms.proofs.LateSteps.{late_end, late_found, late_next}
+use mathlib.Core.Path.{◌≡◌}
+use Prim.Native.Nat.{◌+◌, ◌-◌, ◌≤◌}
+use Rattle.reading.specs.Copy.{late_from}
 use Rattle.forms.proofs.old_form.late_from.Given as goal
 
 abbrev pub invariant-loop-k : goal.invariant-loop-k

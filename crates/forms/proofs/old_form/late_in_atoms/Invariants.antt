@@ -1,15 +1,8 @@
 -- The atoms passed have no variable above 31, so the first is the first in those left. Assumes nothing.
-use borrow.Author.Rules.{rules}
-use native.Mathlib.Omega.{arith}
-use mathlib.Core.Path.{◌≡◌, sym, ◌∙◌, ap}
-use Prim.Native.Nat.{ℕ, ◌+◌, ◌*◌, ◌-◌, ◌≤◌}
-use native.Mathlib.Nat.{sub-zero}
+use mathlib.Core.Path.{◌≡◌}
+use Prim.Native.Nat.{◌+◌, ◌*◌, ◌-◌, ◌≤◌}
 use lib.ListN.{length}
-use Rattle.reading.specs.Header.{atom_places, atom_size}
-use Rattle.reading.specs.Verdict.{told}
-use Rattle.reading.specs.Copy.{late_from, late_in_atoms}
-use Rattle.judging.proofs.JudgingSteps.{bytes_left, same_number, else_found, else_next}
-use Rattle.forms.proofs.LateSteps.{atoms_end, atoms_more}
+use Rattle.reading.specs.Copy.{late_in_atoms}
 use Rattle.forms.proofs.old_form.late_in_atoms.Given as goal
 
 abbrev pub invariant-loop-k : goal.invariant-loop-k

@@ -4,10 +4,9 @@ use native.Mathlib.Omega.{arith}
 use mathlib.Core.Path.{◌≡◌, sym, ◌∙◌, ap, ap₂}
 use mathlib.Core.List.{List}
 use Prim.Native.Nat.{ℕ, ◌+◌, ◌*◌, ◌-◌, ◌≤◌, ◌<◌}
-use native.Mathlib.Nat.{sub-zero}
 use lib.ListN.{length}
 use Rattle.reading.specs.Header.{rules, atom_places}
-use Rattle.reading.specs.Book.{body_count, head_count, body_at, rule_end, rules_start, rule_start}
+use Rattle.reading.specs.Book.{body_count, head_count, body_at, rule_end, rules_start}
 use Rattle.reading.specs.Verdict.{told}
 use Rattle.reading.specs.Copy.{late_in_atoms, late_in_rules}
 use Rattle.reading.proofs.After.{after_zero, after_next}
@@ -49,33 +48,33 @@ within c =
     c.loop-k.invariant.1
 
 -- the book, and where the turn is in it
-abbrev book-in : After-wide2 → List ℕ
-book-in c = c.args.book.now
+abbrev book_in : After-wide2 → List ℕ
+book_in c = c.args.book.now
 
-abbrev at-rule : After-wide2 → ℕ
-at-rule c = c.loop-k.s
+abbrev at_rule : After-wide2 → ℕ
+at_rule c = c.loop-k.s
 
 -- how many atoms the rule has, and where it ends, as the code finds it
 counted : (c : After-wide2)
-    → c.wide.result + c.wide-in-loop-k.result ≡ body_count (book-in c) (at-rule c) + head_count (book-in c)
-    (at-rule c)
+    → c.wide.result + c.wide-in-loop-k.result ≡ body_count (book_in c) (at_rule c) + head_count (book_in c)
+    (at_rule c)
 counted c = omega (arith, c.wide.ensures.0, c.wide-in-loop-k.ensures.0)
 
 ends : (c : After-wide2)
-    → at-rule c + 2 + (1 + c.args.h.places) *
+    → at_rule c + 2 + (1 + c.args.h.places) *
     (c.wide.result + c.wide-in-loop-k.result)
-    ≡ rule_end (book-in c) (at-rule c)
-ends c = ap₂ (λ (w m : ℕ). at-rule c + 2 + (1 + w) * m) (places c.before.before.before.before.before.before.before) (counted c)
+    ≡ rule_end (book_in c) (at_rule c)
+ends c = ap₂ (λ (w m : ℕ). at_rule c + 2 + (1 + w) * m) (places c.before.before.before.before.before.before.before) (counted c)
 
 -- what was found in it
 found : (c : After-late_in_atoms)
     → c.late_in_atoms-r.result
     ≡ told 13
-    (late_in_atoms (book-in c.before) (body_at (book-in c.before) (at-rule c.before))
-    (body_count (book-in c.before) (at-rule c.before) + head_count (book-in c.before) (at-rule c.before)))
+    (late_in_atoms (book_in c.before) (body_at (book_in c.before) (at_rule c.before))
+    (body_count (book_in c.before) (at_rule c.before) + head_count (book_in c.before) (at_rule c.before)))
 found c =
     c.late_in_atoms-r.ensures
-    ∙ ap (λ (m : ℕ). told 13 (late_in_atoms (book-in c.before) (at-rule c.before + 2) m)) (counted c.before)
+    ∙ ap (λ (m : ℕ). told 13 (late_in_atoms (book_in c.before) (at_rule c.before + 2) m)) (counted c.before)
 
 pub loop-k-init : goal.loop-k-init
 loop-k-init c =
@@ -97,8 +96,7 @@ pub overflow_add-s-in-loop-k : goal.overflow_add-s-in-loop-k
 overflow_add-s-in-loop-k c = omega (arith, within c.before.before.before.before.before)
 
 pub late_in_atoms-r-requires : goal.late_in_atoms-r-requires
-late_in_atoms-r-requires c =
-    (
+late_in_atoms-r-requires c = (
   places c.before.before.before.before.before.before.before.before,
   omega (
     arith,
@@ -127,27 +125,27 @@ overflow_add-s-in-loop-k-2 c = omega (arith, within c.before.before.before.befor
 pub overflow_add-s-in-loop-k-3 : goal.overflow_add-s-in-loop-k-3
 overflow_add-s-in-loop-k-3 c =
     omega (
-  arith,
-  places c.before.before.before.before.before.before.before.before.before.before.before,
-  (form_known
-      c.args.book.now).few_places,
-)
+      arith,
+      places c.before.before.before.before.before.before.before.before.before.before.before,
+      (form_known
+          c.args.book.now).few_places,
+    )
 
 pub overflow_mul-s : goal.overflow_mul-s
 overflow_mul-s c =
     omega (
-  arith,
-  within c.before.before.before.before.before.before.before.before,
-  ends c.before.before.before.before,
-)
+      arith,
+      within c.before.before.before.before.before.before.before.before,
+      ends c.before.before.before.before,
+    )
 
 pub overflow_add-s-in-loop-k-4 : goal.overflow_add-s-in-loop-k-4
 overflow_add-s-in-loop-k-4 c =
     omega (
-  arith,
-  within c.before.before.before.before.before.before.before.before,
-  ends c.before.before.before.before,
-)
+      arith,
+      within c.before.before.before.before.before.before.before.before,
+      ends c.before.before.before.before,
+    )
 
 pub loop-k-preserved : goal.loop-k-preserved
 loop-k-preserved c =

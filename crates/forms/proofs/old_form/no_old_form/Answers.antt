@@ -1,12 +1,10 @@
 -- Relations first, then the rules, then the question with its answer record. Assumes nothing.
-use borrow.Author.Rules.{rules}
 use native.Mathlib.Omega.{arith}
-use mathlib.Core.Path.{◌≡◌, sym, ◌∙◌, ap, ap₂}
+use mathlib.Core.Path.{◌≡◌, sym, ◌∙◌, ap₂}
 use mathlib.Core.List.{List}
-use Prim.Native.Nat.{ℕ, ◌+◌, ◌*◌, ◌≤◌}
-use lib.ListN.{length}
+use Prim.Native.Nat.{ℕ, ◌+◌, ◌*◌}
 use Rattle.reading.specs.declared.Header.{Header}
-use Rattle.reading.specs.Header.{atom_places, answer_records, atoms, question_at}
+use Rattle.reading.specs.Header.{atom_places, answer_records, atoms}
 use Rattle.reading.specs.Verdict.{told}
 use Rattle.reading.specs.Copy.{wide_places, late_in_atoms}
 use Rattle.reading.proofs.Known.{records_told}
@@ -40,16 +38,16 @@ searched c =
     k.table_is k.relations_are
 
 -- how many records the question has in all
-abbrev book-in : After-struct_known3 → List ℕ
-book-in c = c.args.book.now
+abbrev book_in : After-struct_known3 → List ℕ
+book_in c = c.args.book.now
 
 abbrev header : After-struct_known3 → Header
 header c = c.read-h.result
 
 counted : (c : After-struct_known3)
-    → c.answers.result + (header c).atoms ≡ answer_records (book-in c) + atoms (book-in c)
+    → c.answers.result + (header c).atoms ≡ answer_records (book_in c) + atoms (book_in c)
 counted c =
-    ap₂ ◌+◌ (c.answers.ensures ∙ records_told (book-in c) (header c)
+    ap₂ ◌+◌ (c.answers.ensures ∙ records_told (book_in c) (header c)
     c.read-h.ensures.is)
     (known c.before.before.before.before.before.before.before.before).atoms_are
 
@@ -79,12 +77,12 @@ answers-requires c =
 pub overflow_add-answers : goal.overflow_add-answers
 overflow_add-answers c =
     let k = known c.before.before.before.before.before.before.before.before.before in
-    omega (arith, counted c.before, records_few (book-in c.before), k.atoms_are, k.few_atoms)
+    omega (arith, counted c.before, records_few (book_in c.before), k.atoms_are, k.few_atoms)
 
 pub late_in_atoms-requires : goal.late_in_atoms-requires
 late_in_atoms-requires c =
     let k = known c.before.before.before.before.before.before.before.before.before in
-    let B = book-in c.before in
+    let B = book_in c.before in
     let size : (1 + (header c.before).places) * (c.answers.result + (header c.before).atoms)
     ≡ (1 + atom_places B) * (answer_records B + atoms B) =
     ap₂ (λ (w n : ℕ). (1 + w) * n) k.places_are (counted c.before) in (

@@ -1,10 +1,8 @@
 -- `forms::put::put_book` meets its contract: the relations, the rules and the question are put one after the other, and
 -- the header before them.
-use borrow.Author.Rules.{rules}
 use native.Mathlib.Omega.{arith}
-use mathlib.Core.Path.{◌≡◌, refl, ◌∙◌, ap}
-use Prim.Native.Nat.{ℕ, ◌+◌, ◌*◌, ◌≤◌, ◌<◌}
-use lib.ListN.{length}
+use mathlib.Core.Path.{◌≡◌, ◌∙◌, ap}
+use Prim.Native.Nat.{ℕ, ◌+◌}
 use Rattle.covering.proofs.Putting.{kept}
 use Rattle.reading.specs.declared.Header.{Header}
 use Rattle.reading.specs.Header.{header_of, answer_records}

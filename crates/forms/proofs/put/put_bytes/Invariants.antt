@@ -1,14 +1,8 @@
 -- `forms::put::put_bytes` meets its contract. The loop's invariant: the bytes passed are put. The measure is the number
 -- of those left.
-use borrow.Author.Rules.{rules}
-use native.Mathlib.Omega.{arith}
-use mathlib.Core.Path.{◌≡◌, sym, ap, subst}
-use mathlib.Core.List.{List, [], ◌∷◌, ◌++◌}
-use Prim.Native.Nat.{ℕ, ◌+◌, ◌-◌, ◌≤◌}
-use lib.ListN.{length, get_or, set, take, drop, length-set}
+use Prim.Native.Nat.{◌+◌, ◌-◌, ◌≤◌}
+use lib.ListN.{take, drop}
 use Rattle.covering.specs.Put.{Puts}
-use Rattle.covering.proofs.Putting.{put_none, put_one, put_as, then, kept}
-use Rattle.forms.proofs.Steps.{byte_more}
 use Rattle.forms.proofs.put.put_bytes.Given as goal
 
 abbrev pub invariant-loop-k : goal.invariant-loop-k

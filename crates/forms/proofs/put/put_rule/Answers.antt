@@ -1,9 +1,7 @@
 -- `forms::put::put_rule` meets its contract: its counts, then the atoms of its body and those of its head.
-use borrow.Author.Rules.{rules}
 use native.Mathlib.Omega.{arith}
-use mathlib.Core.Path.{◌≡◌}
-use Prim.Native.Nat.{ℕ, ◌+◌, ◌*◌, ◌≤◌}
-use lib.ListN.{length, get_or, length-set}
+use Prim.Native.Nat.{◌+◌, ◌*◌, ◌≤◌}
+use lib.ListN.{length, length-set}
 use Rattle.covering.specs.Record.{holding}
 use Rattle.covering.specs.Buffer.{AtomsIn}
 use Rattle.covering.proofs.Putting.{put_as, then, kept}

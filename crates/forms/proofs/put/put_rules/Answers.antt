@@ -1,15 +1,15 @@
 -- `forms::put::put_rules` meets its contract. The loop's invariant: the rules passed are put. The measure is the number
 -- of those left.
 use native.Mathlib.Omega.{arith}
-use mathlib.Core.Path.{◌≡◌, sym, ◌∙◌, ap, ap₂}
-use Prim.Native.Nat.{ℕ, ◌+◌, ◌*◌, ◌-◌, ◌≤◌, ◌<◌}
+use mathlib.Core.Path.{◌≡◌, ap₂}
+use Prim.Native.Nat.{ℕ, ◌+◌, ◌*◌, ◌≤◌, ◌<◌}
 use lib.ListN.{length}
 use Rattle.reading.specs.Header.{form_for, rules, atom_places}
 use Rattle.reading.specs.Book.{rule_end, body_count, head_count}
 use Rattle.reading.proofs.Forms.{form_known}
 use Rattle.forms.specs.Ready.{RuleReady}
 use Rattle.forms.proofs.Headed.{headed}
-use Rattle.forms.proofs.Rules.{SoFar, rules_begin, rules_end, rules_step, next_ready, next_room, same_room}
+use Rattle.forms.proofs.Rules.{rules_begin, rules_end, rules_step, next_ready, next_room, same_room}
 use Rattle.forms.proofs.put.put_rules.Lts as lts
 use Rattle.forms.proofs.put.put_rules.Reads as reads
 use Rattle.forms.proofs.put.put_rules.Tie as tie
@@ -42,22 +42,22 @@ ready c =
       count c.before.before.before.before,
     )) c.requires.0
 
-abbrev at-rule : After-wide2 → ℕ
-at-rule c = c.loop-k.s
+abbrev at_rule : After-wide2 → ℕ
+at_rule c = c.loop-k.s
 
 -- where the rule ends, as the code finds it
 ends : (c : After-wide2)
-    → at-rule c + 2 + (1 + c.args.h.places) * (c.wide.result + c.wide-in-loop-k.result)
-    ≡ rule_end c.args.book.now (at-rule c)
+    → at_rule c + 2 + (1 + c.args.h.places) * (c.wide.result + c.wide-in-loop-k.result)
+    ≡ rule_end c.args.book.now (at_rule c)
 ends c =
     let B = c.args.book.now in
-    let s = at-rule c in
+    let s = at_rule c in
     let n : c.wide.result + c.wide-in-loop-k.result ≡ body_count B s + head_count B s =
     omega (arith, c.wide.ensures.0, c.wide-in-loop-k.ensures.0) in
     ap₂ (λ (w m : ℕ). s + 2 + (1 + w) * m) (places c.before.before.before.before.before.before.before.before.before.before.before.before) n
 
 within : (c : After-wide2)
-    → rule_end c.args.book.now (at-rule c) ≤ length c.args.book.now
+    → rule_end c.args.book.now (at_rule c) ≤ length c.args.book.now
 within c = omega (arith, (ready c.before.before.before.before.before.before.before.before).head.fits)
 
 pub loop-k-init : goal.loop-k-init
@@ -92,9 +92,9 @@ overflow_add-s-in-loop-k-2 c = omega (arith, (ready c.before.before.before.befor
 pub bounds-book-s-in-loop-k : goal.bounds-book-s-in-loop-k
 bounds-book-s-in-loop-k c =
     omega (
-  arith,
-  (ready c.before.before.before.before.before.before.before.before).head.fits,
-)
+      arith,
+      (ready c.before.before.before.before.before.before.before.before).head.fits,
+    )
 
 pub overflow_add-s-in-loop-k-3 : goal.overflow_add-s-in-loop-k-3
 overflow_add-s-in-loop-k-3 c = omega (arith, c.wide.ensures.1, c.wide-in-loop-k.ensures.1)
@@ -121,7 +121,7 @@ shape_of-out c = same_room _ _ _ _ c.loop-k.invariant
 pub returns : goal.returns
 returns c =
     rules_end _ _ _ _ c.loop-k.invariant (omega (
-  arith,
-  c.loop-k-test.false,
-  count c.before.before.before.before.before,
-))
+      arith,
+      c.loop-k-test.false,
+      count c.before.before.before.before.before,
+    ))

@@ -1,10 +1,9 @@
 -- `forms::put::put_words` meets its contract. The loop's invariant: the words passed are put, two bytes each. The
 -- measure is the number of those left.
-use borrow.Author.Rules.{rules}
 use native.Mathlib.Omega.{arith}
 use mathlib.Core.Path.{◌≡◌, subst}
-use Prim.Native.Nat.{ℕ, ◌+◌, ◌*◌, ◌-◌, ◌≤◌}
-use lib.ListN.{length, take}
+use Prim.Native.Nat.{ℕ}
+use lib.ListN.{take}
 use Rattle.covering.specs.Lists.{gather}
 use Rattle.covering.specs.Put.{Puts}
 use Rattle.covering.proofs.Putting.{put_none, put_as, then, kept}

@@ -1,15 +1,11 @@
 -- `forms::put::put_words` meets its contract. The loop's invariant: the words passed are put, two bytes each. The
 -- measure is the number of those left.
-use borrow.Author.Rules.{rules}
-use native.Mathlib.Omega.{arith}
-use mathlib.Core.Path.{◌≡◌, subst}
-use Prim.Native.Nat.{ℕ, ◌+◌, ◌*◌, ◌-◌, ◌≤◌}
-use lib.ListN.{length, take}
+use mathlib.Core.Path.{◌≡◌}
+use Prim.Native.Nat.{◌*◌, ◌-◌, ◌≤◌}
+use lib.ListN.{take}
 use Rattle.covering.specs.Lists.{gather}
 use Rattle.covering.specs.Put.{Puts}
-use Rattle.covering.proofs.Putting.{put_none, put_as, then, kept}
 use Rattle.reading.specs.Word.{word_bytes}
-use Rattle.forms.proofs.Steps.{word_more}
 use Rattle.forms.proofs.put.put_words.Given as goal
 
 abbrev pub invariant-loop-k : goal.invariant-loop-k

@@ -1,12 +1,10 @@
 -- A variable that none of the atoms passed has stands where it stands in those left. Assumes nothing.
 use borrow.Author.Rules.{rules}
 use native.Mathlib.Omega.{arith}
-use mathlib.Core.Path.{◌≡◌, sym, ◌∙◌}
+use mathlib.Core.Path.{sym, ◌∙◌}
 use Prim.Native.Nat.{◌+◌, ◌*◌, ◌-◌, ◌≤◌, ◌<◌}
 use native.Mathlib.Nat.{sub-zero}
 use lib.ListN.{length}
-use Rattle.covering.specs.Lists.{any}
-use Rattle.covering.specs.Term.{var, terms, eq_term}
 use Rattle.covering.specs.Record.{holding, atoms_at}
 use Rattle.judging.proofs.JudgingSteps.{bytes_left}
 use Rattle.judging.proofs.AnswerSteps.{no_variable, is_variable, stands_end, stands_found, stands_next}

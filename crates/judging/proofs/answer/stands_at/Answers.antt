@@ -2,7 +2,7 @@
 use borrow.Author.Rules.{rules}
 use native.Mathlib.Omega.{arith}
 use mathlib.Core.Path.{◌≡◌, sym, ◌∙◌, ap₂}
-use Prim.Native.Nat.{ℕ, ◌+◌, ◌-◌, ◌≤◌}
+use Prim.Native.Nat.{ℕ, ◌+◌, ◌-◌}
 use Rattle.covering.specs.Lists.{any}
 use Rattle.covering.specs.Term.{var, eq_term}
 use Rattle.covering.specs.Record.{args_at}

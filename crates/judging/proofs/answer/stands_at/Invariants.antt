@@ -1,12 +1,9 @@
 -- The variable is in none of the places passed, so that it stands where it stands in those left. Assumes nothing.
-use borrow.Author.Rules.{rules}
-use native.Mathlib.Omega.{arith}
-use mathlib.Core.Path.{◌≡◌, sym, ◌∙◌, ap₂}
-use Prim.Native.Nat.{ℕ, ◌+◌, ◌-◌, ◌≤◌}
+use mathlib.Core.Path.{◌≡◌}
+use Prim.Native.Nat.{◌+◌, ◌-◌, ◌≤◌}
 use Rattle.covering.specs.Lists.{any}
 use Rattle.covering.specs.Term.{var, eq_term}
 use Rattle.covering.specs.Record.{args_at}
-use Rattle.judging.proofs.AnswerSteps.{has_end, has_stop, has_found, has_next}
 use Rattle.judging.proofs.answer.stands_at.Given as goal
 
 abbrev pub invariant-loop-w : goal.invariant-loop-w

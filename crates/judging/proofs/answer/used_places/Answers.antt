@@ -2,7 +2,7 @@
 use borrow.Author.Rules.{rules}
 use native.Mathlib.Omega.{arith}
 use mathlib.Core.Path.{◌≡◌, sym, ◌∙◌, ap, ap₂}
-use Prim.Native.Nat.{ℕ, ◌+◌, ◌-◌, ◌≤◌}
+use Prim.Native.Nat.{ℕ, ◌+◌, ◌-◌}
 use Rattle.reading.specs.Refusals.{used_places}
 use Rattle.judging.proofs.AnswerSteps.{used_end, used_stop, used_next}
 use Rattle.judging.proofs.answer.used_places.Goals as goal

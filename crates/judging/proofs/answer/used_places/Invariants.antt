@@ -1,10 +1,7 @@
 -- The places passed are used, so that those used are they and the used ones among those left. Assumes nothing.
-use borrow.Author.Rules.{rules}
-use native.Mathlib.Omega.{arith}
-use mathlib.Core.Path.{◌≡◌, sym, ◌∙◌, ap, ap₂}
-use Prim.Native.Nat.{ℕ, ◌+◌, ◌-◌, ◌≤◌}
+use mathlib.Core.Path.{◌≡◌}
+use Prim.Native.Nat.{◌+◌, ◌-◌, ◌≤◌}
 use Rattle.reading.specs.Refusals.{used_places}
-use Rattle.judging.proofs.AnswerSteps.{used_end, used_stop, used_next}
 use Rattle.judging.proofs.answer.used_places.Given as goal
 
 abbrev pub invariant-loop-w : goal.invariant-loop-w

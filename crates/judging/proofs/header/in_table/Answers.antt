@@ -1,5 +1,4 @@
 -- The six tests together. Assumes nothing.
-use borrow.Author.Rules.{rules}
 use mathlib.Core.Path.{ap, ap₂}
 use mathlib.Core.Bool.{◌&&◌}
 use Prim.Native.Nat.{ℕ}

@@ -1,5 +1,4 @@
 -- The tests of a used place, or of an unused one. Assumes nothing.
-use borrow.Author.Rules.{rules}
 use native.Mathlib.Omega.{arith}
 use mathlib.Core.Path.{◌≡◌, sym, ◌∙◌, ap}
 use mathlib.Core.Bool.{Bool, true, ◌&&◌, ◌||◌}
@@ -9,13 +8,13 @@ use Rattle.reading.specs.Refusals.{place_allowed}
 use Rattle.judging.proofs.judge.allowed.Goals as goal
 
 -- a used place, by the number that constants stay below
-used-is : (k C b : ℕ) {used : Bool} {e : ℕ} → used ≡ true → e ≡ 128 + C
+used_is : (k C b : ℕ) {used : Bool} {e : ℕ} → used ≡ true → e ≡ 128 + C
     → (ltb b k || (leb 128 b && ltb b e)) ≡ place_allowed k C used b
-used-is k C b taken end =
+used_is k C b taken end =
     ap (λ (x : ℕ). ltb b k || (leb 128 b && ltb b x)) end ∙ sym (ap (λ (u : Bool). place_allowed k C u b) taken)
 
 pub returns-then-used : goal.returns-then-used
-returns-then-used c = let a = c.args in used-is a.k a.c a.b c.if-used.true (omega arith)
+returns-then-used c = let a = c.args in used_is a.k a.c a.b c.if-used.true (omega arith)
 
 pub returns : goal.returns
 returns c = rw c.if-used.false

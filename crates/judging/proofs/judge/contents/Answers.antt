@@ -23,32 +23,32 @@ Else1 = lts.Else1 tie.the-claims reads.Pre reads.Post
 abbrev Else2 : Type 0
 Else2 = lts.Else2 tie.the-claims reads.Pre reads.Post
 
-is-five : (c : After-wrong_places)
+is_five : (c : After-wrong_places)
     → c.wrong_places-five.result ≡ told 5 (five c.args.book.now)
-is-five c =
+is_five c =
     c.wrong_places-five.ensures
     ∙ ap₂ (λ (i n : ℕ). told 5 (wrong_places c.args.book.now i n)) (known c.requires).table_is
     (is_relations c.requires)
 
-is-six : (c : After-wrong_rule)
+is_six : (c : After-wrong_rule)
     → c.wrong_rule-six.result ≡ told 6 (six c.args.book.now)
-is-six c =
+is_six c =
     c.wrong_rule-six.ensures ∙ ap (told 6) (rule_search c.requires)
 
 -- 5 does not apply, and 6 does not
 not_five : (c : Else1) → (told 5 (five c.args.book.now)).number ≡ 0
-not_five c = same_number (sym (is-five c.before.before)) ∙ c.if-five-ne0.false
+not_five c = same_number (sym (is_five c.before.before)) ∙ c.if-five-ne0.false
 
-not-six : (c : Else2)
+not_six : (c : Else2)
     → (told 6 (six c.args.book.now)).number ≡ 0
-not-six c = same_number (sym (is-six c.before.before)) ∙ c.if-six-ne0.false
+not_six c = same_number (sym (is_six c.before.before)) ∙ c.if-six-ne0.false
 
 pub wrong_places-five-requires : goal.wrong_places-five-requires
 wrong_places-five-requires c = (relations_within c.requires, (known c.requires).places_are)
 
 pub returns-then-five-ne0 : goal.returns-then-five-ne0
 returns-then-five-ne0 c =
-    let e = is-five c.before.before.before in
+    let e = is_five c.before.before.before in
     e ∙ sym (contents_five _ (λ h. c.if-five-ne0.true (same_number e ∙ h)))
 
 pub wrong_rule-six-requires : goal.wrong_rule-six-requires
@@ -58,18 +58,18 @@ wrong_rule-six-requires c =
 
 pub returns-then-six-ne0 : goal.returns-then-six-ne0
 returns-then-six-ne0 c =
-    let e = is-six c.before.before.before in
+    let e = is_six c.before.before.before in
     e ∙ sym (contents_six _ (not_five c.before.before.before.before) (λ h. c.if-six-ne0.true (same_number e ∙ h)))
 
 pub wrong_byte-seven-requires : goal.wrong_byte-seven-requires
-wrong_byte-seven-requires c = (c.requires, told_none 6 (six _) (omega arith) (not-six c.before))
+wrong_byte-seven-requires c = (c.requires, told_none 6 (six _) (omega arith) (not_six c.before))
 
 pub returns-then-seven-ne0 : goal.returns-then-seven-ne0
 returns-then-seven-ne0 c =
     let e = c.wrong_byte-seven.ensures in
-    let no-five = not_five c.before.before.before.before.before.before.before in
-    let no_six = not-six c.before.before.before.before in
-    e ∙ sym (contents_seven _ no-five no_six (λ h. c.if-seven-ne0.true (same_number e ∙ h)))
+    let no_five = not_five c.before.before.before.before.before.before.before in
+    let no_six = not_six c.before.before.before.before in
+    e ∙ sym (contents_seven _ no_five no_six (λ h. c.if-seven-ne0.true (same_number e ∙ h)))
 
 pub loose_variable-requires : goal.loose_variable-requires
 loose_variable-requires c = c.requires
@@ -77,7 +77,7 @@ loose_variable-requires c = c.requires
 pub returns : goal.returns
 returns c =
     let e = c.wrong_byte-seven.ensures in
-    let no-five = not_five c.before.before.before.before.before.before.before.before in
-    let no_six = not-six c.before.before.before.before.before in
+    let no_five = not_five c.before.before.before.before.before.before.before.before in
+    let no_six = not_six c.before.before.before.before.before in
     c.loose_variable.ensures
-    ∙ sym (contents_eleven _ no-five no_six (same_number (sym e) ∙ c.if-seven-ne0.false))
+    ∙ sym (contents_eleven _ no_five no_six (same_number (sym e) ∙ c.if-seven-ne0.false))

@@ -2,17 +2,16 @@
 -- left. Assumes nothing.
 use borrow.Author.Rules.{rules}
 use native.Mathlib.Omega.{arith}
-use borrow.Author.Tests.{not-true, not-false}
 use mathlib.Core.Path.{◌≡◌, sym, ◌∙◌, ap, ap₂}
 use Rattle.covering.specs.Term.{Question}
 use mathlib.Core.Bool.{true}
-use Prim.Native.Nat.{ℕ, ◌+◌, ◌*◌, ◌-◌, ◌≤◌}
+use Prim.Native.Nat.{ℕ, ◌+◌, ◌*◌, ◌-◌}
 use Rattle.covering.specs.Record.{holding, atoms_at}
 use Rattle.covering.proofs.Tests.{true→T}
 use lib.ListN.{length}
 use Rattle.reading.specs.Word.{byte}
 use Rattle.reading.specs.Header.{announced, variables}
-use Rattle.reading.specs.Verdict.{told, stands_in, loose_from, loose_variable}
+use Rattle.reading.specs.Verdict.{told, stands_in, loose_from}
 use Rattle.reading.proofs.Forms.{form_known}
 use Rattle.judging.proofs.JudgedHeader.{known, few_places, ends_with, is_question, is_atoms, is_records}
 use Rattle.judging.proofs.JudgedHeader.{counts_fit}

@@ -1,5 +1,4 @@
 -- The counts fit and are 1 to 4, and the end is no later than it may be: the parts of `rule_right`. Assumes nothing.
-use borrow.Author.Rules.{rules}
 use native.Mathlib.Omega.{arith}
 use mathlib.Core.Path.{◌≡◌, sym, ◌∙◌}
 use mathlib.Core.Bool.{Bool, true, false, cond, ◌&&◌}

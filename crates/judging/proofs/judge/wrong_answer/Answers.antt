@@ -1,6 +1,5 @@
 -- The relation byte is judged first, then the places; of these the first is used and the next ones up to a 255 are.
 -- Assumes nothing.
-use borrow.Author.Rules.{rules}
 use native.Mathlib.Omega.{arith}
 use mathlib.Core.Path.{◌≡◌, sym, ◌∙◌, ap}
 use mathlib.Core.Bool.{true}

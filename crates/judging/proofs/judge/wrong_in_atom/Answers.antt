@@ -1,5 +1,4 @@
 -- The relation number is judged first, and the places only where it is allowed. Assumes nothing.
-use borrow.Author.Rules.{rules}
 use native.Mathlib.Omega.{arith}
 use Prim.Native.Nat.{ℕ, ◌+◌, ◌<◌}
 use Rattle.reading.specs.Word.{byte}

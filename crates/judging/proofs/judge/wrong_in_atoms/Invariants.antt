@@ -1,14 +1,9 @@
 -- The atoms passed have no wrong byte, so the first one is the first in those left. Assumes nothing.
-use borrow.Author.Rules.{rules}
-use native.Mathlib.Omega.{arith}
-use mathlib.Core.Path.{◌≡◌, sym, ◌∙◌, ap}
-use Prim.Native.Nat.{ℕ, ◌+◌, ◌*◌, ◌-◌, ◌≤◌}
-use native.Mathlib.Nat.{sub-zero}
+use mathlib.Core.Path.{◌≡◌}
+use Prim.Native.Nat.{◌+◌, ◌*◌, ◌-◌, ◌≤◌}
 use lib.ListN.{length}
 use Rattle.reading.specs.Header.{atom_size}
-use Rattle.reading.specs.Verdict.{told, wrong_in_atom, wrong_in_atoms}
-use Rattle.judging.proofs.JudgedHeader.{known, few_places}
-use Rattle.judging.proofs.JudgingSteps.{bytes_left, same_number, else_found, else_next, atoms_end, atoms_more}
+use Rattle.reading.specs.Verdict.{wrong_in_atoms}
 use Rattle.judging.proofs.judge.wrong_in_atoms.Given as goal
 
 abbrev pub invariant-loop-k : goal.invariant-loop-k

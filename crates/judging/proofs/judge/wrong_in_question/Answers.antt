@@ -1,5 +1,4 @@
 -- The answer record stands before the atoms, which start after it where there is one. Assumes nothing.
-use borrow.Author.Rules.{rules}
 use native.Mathlib.Omega.{arith}
 use mathlib.Core.Path.{◌≡◌, sym, ◌∙◌, ap₂}
 use Prim.Native.Nat.{ℕ, ◌+◌, ◌*◌}

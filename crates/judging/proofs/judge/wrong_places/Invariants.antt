@@ -1,15 +1,7 @@
 -- The bytes passed are right, so the first wrong one is the first among those left. Assumes nothing.
-use borrow.Author.Rules.{rules}
-use native.Mathlib.Omega.{arith}
-use borrow.Author.Tests.{not-true, not-false}
-use mathlib.Core.Path.{◌≡◌, sym, ◌∙◌, ap, ap₂}
-use Prim.Native.Nat.{ℕ, ◌+◌, ◌-◌, ◌≤◌}
-use mathlib.Core.Bool.{Bool}
-use mathlib.Core.List.{List}
-use Rattle.reading.specs.Word.{byte}
-use Rattle.reading.specs.Header.{form_of, atom_places, inside, places_range, in_bounds}
-use Rattle.reading.specs.Verdict.{told, wrong_places}
-use Rattle.judging.proofs.JudgingSteps.{places_end, places_wrong, places_right}
+use mathlib.Core.Path.{◌≡◌}
+use Prim.Native.Nat.{◌+◌, ◌-◌, ◌≤◌}
+use Rattle.reading.specs.Verdict.{wrong_places}
 use Rattle.judging.proofs.judge.wrong_places.Given as goal
 
 abbrev pub invariant-loop-k : goal.invariant-loop-k

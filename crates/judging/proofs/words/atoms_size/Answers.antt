@@ -1,5 +1,4 @@
 -- An atom has at most seven bytes. Assumes nothing.
-use borrow.Author.Rules.{rules}
 use native.Mathlib.Omega.{arith}
 use native.Mathlib.Nat.{mul-le-mul_right}
 use mathlib.Core.Path.{refl}

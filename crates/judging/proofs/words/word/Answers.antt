@@ -1,5 +1,4 @@
 -- Two bytes, the low one first. Assumes nothing.
-use borrow.Author.Rules.{rules}
 use native.Mathlib.Omega.{arith}
 use Rattle.reading.specs.Word.{word}
 use Rattle.judging.proofs.words.word.Goals as goal

@@ -1,18 +1,16 @@
 -- The builder's two functions meet their contracts. `build` goes through the digits of the next atom, `try_digit`
 -- goes on with the rest under one digit. The measure is two for each atom left, and one less while a digit is tried.
 use borrow.Author.Rules.{rules}
-use borrow.Author.Tests.{not-true, not-false}
 use native.Mathlib.Omega.{arith}
 use mathlib.Core.Path.{◌≡◌, refl, sym, ◌∙◌}
-use Prim.Native.Nat.{ℕ, ◌+◌, ◌*◌, ◌-◌, ◌<◌}
+use Prim.Native.Nat.{◌<◌}
 use lib.ListN.{length}
 use Rattle.lister.proofs.Asked.{child_small, child_number, head_sound}
-use Rattle.lister.proofs.Answers.{told_same, told_none, Reached, sought_whole, sought_unsent}
+use Rattle.lister.proofs.Answers.{told_same, told_none, sought_whole, sought_unsent}
 use Rattle.lister.proofs.Answers.{reached_first, reached_last, reached_found, reached_next}
 use Rattle.lister.proofs.Answers.{skipped, apart_at, clash_at}
 use Rattle.lister.proofs.Digits.{some_sent_lem, none_sent, number_small, trying}
 use Rattle.lister.proofs.Digits.{asks_left, leaves, asks_sent, sends, gives_up}
-use Rattle.lister.specs.Leaving.{any_sent, left_by}
 use Rattle.lister.proofs.builder.+build_try_digit.Goals as goal
 
 pub build-returns-then-sent-eq0 : goal.build-returns-then-sent-eq0
@@ -81,8 +79,8 @@ try_digit-overflow_mul-next-2 t c = rw c.requires.more_nonzero.2 (omega (arith, 
 
 pub try_digit-returns-then-next-each : goal.try_digit-returns-then-next-each
 try_digit-returns-then-next-each t c =
-    let all-before = rw c.requires.more_nonzero.2 at c.if-next-each.true in
-    told_none (skipped (trying (c.requires.builds, c.requires.more_nonzero)) _ (omega (arith, all-before)))
+    let all_before = rw c.requires.more_nonzero.2 at c.if-next-each.true in
+    told_none (skipped (trying (c.requires.builds, c.requires.more_nonzero)) _ (omega (arith, all_before)))
 
 pub try_digit-overflow_add-passed : goal.try_digit-overflow_add-passed
 try_digit-overflow_add-passed t c =

@@ -1,7 +1,6 @@
 -- `lister::builder::are_valid` meets its contract: a rule without existential variables answers with yes, and any other by
 -- the test.
 use borrow.Author.Rules.{rules}
-use borrow.Author.Tests.{not-true}
 use mathlib.Core.Path.{◌≡◌, sym, ◌∙◌}
 use lib.ListN.{length}
 use Rattle.covering.specs.Record.{question_of, stored}

@@ -1,8 +1,7 @@
 -- `lister::builder::can_be_valid` meets its contract: it says no only by the two tests.
-use borrow.Author.Rules.{rules}
-use borrow.Author.Tests.{not-true, not-false}
+use borrow.Author.Tests.{not-false}
 use native.Mathlib.Omega.{arith}
-use mathlib.Core.Path.{◌≡◌, sym, ◌∙◌, ap, subst}
+use mathlib.Core.Path.{sym, ◌∙◌, ap, subst}
 use mathlib.Core.Bool.{true≢false}
 use mathlib.Core.Logic.{inl, inr}
 use Rattle.covering.specs.Record.{question_of, stored}

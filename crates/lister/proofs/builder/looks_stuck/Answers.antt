@@ -1,7 +1,7 @@
 -- `lister::builder::looks_stuck` meets its contract: it says yes only by the test.
 use borrow.Author.Rules.{rules}
 use native.Mathlib.Omega.{arith}
-use mathlib.Core.Path.{◌≡◌, sym}
+use mathlib.Core.Path.{sym}
 use mathlib.Core.Bool.{true≢false}
 use Rattle.lister.proofs.builder.looks_stuck.Goals as goal
 
@@ -15,13 +15,12 @@ pub overflow_add-passed : goal.overflow_add-passed
 overflow_add-passed c = omega (arith, c.requires.0.few, c.requires.1)
 
 pub some_stuck-requires : goal.some_stuck-requires
-some_stuck-requires c =
-    (
-      c.requires.2.body.fits,
-      c.requires.2.head,
-      search rules,
-      omega (arith, c.requires.0.atoms.fits, c.requires.1),
-    )
+some_stuck-requires c = (
+  c.requires.2.body.fits,
+  c.requires.2.head,
+  search rules,
+  omega (arith, c.requires.0.atoms.fits, c.requires.1),
+)
 
 pub returns : goal.returns
 returns c = λ told. c.some_stuck.ensures told

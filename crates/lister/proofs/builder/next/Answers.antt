@@ -1,6 +1,5 @@
 -- `lister::builder::next` meets its contract: the builder starts with no atom passed, none sent and each variable in a
 -- class of its own.
-use borrow.Author.Rules.{rules}
 use native.Mathlib.Omega.{arith}
 use mathlib.Core.Path.{refl}
 use Rattle.lister.proofs.Asked.{start_next}

@@ -1,9 +1,7 @@
 -- `lister::builder::whole_choice` meets its contract: nothing before the start or where it is not valid, else the rewriting
 -- of the choice.
-use borrow.Author.Rules.{rules}
-use borrow.Author.Tests.{not-true, not-false}
 use native.Mathlib.Omega.{arith}
-use mathlib.Core.Path.{refl, sym, ◌∙◌, ap, subst}
+use mathlib.Core.Path.{sym, ◌∙◌, ap, subst}
 use lib.ListN.{get_or}
 use Prim.Native.Nat.{◌≤◌}
 use Rattle.covering.specs.Form.{form}

@@ -1,6 +1,5 @@
 -- `lister::powers::choice_count` meets its contract: the code's table is that of `specs/Counts`, which is right at every
 -- entry.
-use borrow.Author.Rules.{rules}
 use native.Mathlib.Omega.{arith}
 use mathlib.Core.Path.{◌≡◌}
 use Prim.Native.Nat.{suc, ◌-◌}

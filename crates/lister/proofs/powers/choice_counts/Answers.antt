@@ -1,5 +1,4 @@
 -- `lister::powers::choice_counts` meets its contract: the row is that of `specs/Counts`, which is right at every entry.
-use borrow.Author.Rules.{rules}
 use native.Mathlib.Omega.{arith}
 use mathlib.Core.Path.{◌≡◌}
 use Prim.Native.Nat.{suc, ◌-◌}

@@ -1,12 +1,10 @@
 -- `lister::prefix::after_prefix` meets its contract. The number is at most the choice's and the count of those that have
 -- its first digits, so it fits.
-use borrow.Author.Rules.{rules}
 use native.Mathlib.Omega.{arith}
 use native.Mathlib.Nat.{add-mul, div-le_self, div-mul-le_self}
-use mathlib.Core.Path.{◌≡◌, ap}
+use mathlib.Core.Path.{ap}
 use Prim.Native.Nat.{ℕ, ◌+◌, ◌*◌, ◌-◌, ◌/◌, ◌≤◌}
 use lib.ListN.{get_or}
-use Rattle.unification.specs.Choice.{count}
 use Rattle.unification.proofs.Prefix.{count_some}
 use Rattle.lister.specs.Counts.{most_choices}
 use Rattle.lister.proofs.Asked.{count_few}

@@ -1,13 +1,10 @@
 -- `lister::prefix::is_unmet` meets its contract. The loop's invariant: no head atom has the relation exactly where none from
 -- here on has it. The measure is the number of these atoms.
 use native.Mathlib.Omega.{arith}
-use mathlib.Core.Path.{◌≡◌, refl, sym, ap, ◌∙◌}
+use mathlib.Core.Path.{refl, sym, ap, ◌∙◌}
 use mathlib.Core.Bool.{not}
-use Prim.Native.Nat.{◌+◌, ◌*◌, ◌≤◌}
-use lib.ListN.{length}
-use Rattle.covering.specs.Record.{stored, atoms_at}
 use Rattle.unify.specs.InBytes.{rule_in}
-use Rattle.lister.proofs.Unmet.{met, met_none, met_here, met_later}
+use Rattle.lister.proofs.Unmet.{met_none, met_here, met_later}
 use Rattle.lister.proofs.prefix.is_unmet.Goals as goal
 
 pub loop-more-init : goal.loop-more-init
@@ -18,8 +15,7 @@ unfolding rule_in
 returns-then-book-at c = sym (ap not (c.loop-more.invariant.1 ∙ met_here _ _ _ _ (omega arith) c.if-book-at.true))
 
 pub loop-more-preserved : goal.loop-more-preserved
-loop-more-preserved c =
-    (
+loop-more-preserved c = (
   omega arith,
   c.loop-more.invariant.1 ∙ met_later _ _ _ _ (omega arith) c.if-book-at.false,
 )

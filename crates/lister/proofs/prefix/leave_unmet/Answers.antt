@@ -1,16 +1,8 @@
 -- `lister::prefix::leave_unmet` meets its contract. The loop's invariant: the atoms left so far, and those from the j-th on
 -- that no head atom can meet, are what is to be left. The measure is how many atoms are still to be looked at.
-use borrow.Author.Rules.{rules}
 use native.Mathlib.Omega.{arith}
-use mathlib.Core.Path.{◌≡◌, refl, sym, ap, ◌∙◌, subst}
-use mathlib.Core.Logic.{⊎_elim}
-use mathlib.Core.List.{◌++◌}
-use Prim.Native.Nat.{◌+◌, ◌*◌, ◌-◌, ◌≤◌}
-use lib.ListN.{length, get_or, drop}
-use Rattle.covering.specs.Record.{stored, question_of}
-use Rattle.unify.specs.InBytes.{in_book}
-use Rattle.lister.specs.FirstDigits.{unmet}
-use Rattle.lister.specs.Listing.{rule_of}
+use mathlib.Core.Path.{refl, sym, ap, ◌∙◌, subst}
+use lib.ListN.{length}
 use Rattle.lister.proofs.LeftAtoms.{left_room}
 use Rattle.lister.proofs.Unmet.{atom_in, Leaving, leaving_more, leaving_same, leaving_done}
 use Rattle.lister.proofs.prefix.leave_unmet.Goals as goal
@@ -38,11 +30,10 @@ pub is_unmet-requires : goal.is_unmet-requires
 is_unmet-requires c = c.requires.1.head.fits
 
 pub put_atom-requires : goal.put_atom-requires
-put_atom-requires c =
-    (
-      left_room _ c.loop-j.invariant.1.left_in (omega (arith, c.loop-j.invariant.1.few, c.requires.0.few, c.loop-j-test.true)),
-      atom_in c.requires.0 c.loop-j-test.true,
-    )
+put_atom-requires c = (
+  left_room _ c.loop-j.invariant.1.left_in (omega (arith, c.loop-j.invariant.1.few, c.requires.0.few, c.loop-j-test.true)),
+  atom_in c.requires.0 c.loop-j-test.true,
+)
 
 pub overflow_add-j : goal.overflow_add-j
 overflow_add-j c = omega (arith, c.requires.0.few, c.loop-j-test.true)
@@ -53,15 +44,15 @@ loop-j-preserved c =
     let l = c.loop-j.invariant.1 in
     elim c.if-is_unmet.branch [
       | then-is_unmet w ↦ (
-          ap length w.left-is ∙ w.put_atom.auto.kept ∙ c.loop-j.invariant.0,
-          subst (Leaving _ _ _ _) (sym w.left-is)
-              (leaving_more c.requires.0 l c.loop-j-test.true (sym u ∙ w.if-is_unmet.true) w.put_atom.ensures),
-        )
+        ap length w.left-is ∙ w.put_atom.auto.kept ∙ c.loop-j.invariant.0,
+        subst (Leaving _ _ _ _) (sym w.left-is)
+            (leaving_more c.requires.0 l c.loop-j-test.true (sym u ∙ w.if-is_unmet.true) w.put_atom.ensures),
+      )
       | else-is_unmet w ↦ (
-          ap length w.left-is ∙ c.loop-j.invariant.0,
-          subst (Leaving _ _ _ _) (sym w.left-is)
-              (leaving_same c.requires.0 l c.loop-j-test.true (sym u ∙ w.if-is_unmet.false)),
-        )
+        ap length w.left-is ∙ c.loop-j.invariant.0,
+        subst (Leaving _ _ _ _) (sym w.left-is)
+            (leaving_same c.requires.0 l c.loop-j-test.true (sym u ∙ w.if-is_unmet.false)),
+      )
     ]
 
 pub shape_of-left : goal.shape_of-left

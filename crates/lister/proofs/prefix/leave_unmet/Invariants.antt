@@ -1,18 +1,13 @@
 -- `lister::prefix::leave_unmet` meets its contract. The loop's invariant: the atoms left so far, and those from the j-th on
 -- that no head atom can meet, are what is to be left. The measure is how many atoms are still to be looked at.
-use borrow.Author.Rules.{rules}
-use native.Mathlib.Omega.{arith}
-use mathlib.Core.Path.{◌≡◌, refl, sym, ap, ◌∙◌, subst}
-use mathlib.Core.Logic.{⊎_elim}
+use mathlib.Core.Path.{◌≡◌}
 use mathlib.Core.List.{◌++◌}
-use Prim.Native.Nat.{◌+◌, ◌*◌, ◌-◌, ◌≤◌}
-use lib.ListN.{length, get_or, drop}
+use Prim.Native.Nat.{◌-◌}
+use lib.ListN.{length, drop}
 use Rattle.covering.specs.Record.{stored, question_of}
-use Rattle.unify.specs.InBytes.{in_book}
 use Rattle.lister.specs.FirstDigits.{unmet}
 use Rattle.lister.specs.Listing.{rule_of}
-use Rattle.lister.proofs.LeftAtoms.{left_room}
-use Rattle.lister.proofs.Unmet.{atom_in, Leaving, leaving_more, leaving_same, leaving_done}
+use Rattle.lister.proofs.Unmet.{Leaving}
 use Rattle.lister.proofs.prefix.leave_unmet.Given as goal
 
 abbrev pub invariant-loop-j : goal.invariant-loop-j

@@ -3,17 +3,15 @@
 -- the p digits are still to come.
 use borrow.Author.Rules.{rules}
 use native.Mathlib.Omega.{arith}
-use mathlib.Core.Path.{◌≡◌, refl, sym, ap, ◌∙◌, subst}
+use mathlib.Core.Path.{◌≡◌, sym, ◌∙◌, subst}
 use mathlib.Core.Bool.{Bool}
 use mathlib.Core.List.{List}
-use Prim.Native.Nat.{ℕ, ◌+◌, ◌*◌, ◌-◌, ◌/◌, ◌≤◌, ◌<◌}
+use Prim.Native.Nat.{ℕ, ◌+◌, ◌*◌, ◌-◌, ◌/◌, ◌<◌}
 use lib.ListN.{length, get_or}
-use Rattle.covering.specs.Record.{stored, question_of}
 use Rattle.covering.proofs.Tests.{not_true, not_false}
 use Rattle.unification.specs.Choice.{count}
 use Rattle.unification.proofs.Prefix.{count_some}
 use Rattle.lister.specs.FirstDigits.{DigitPut, PrefixIs}
-use Rattle.lister.specs.Listing.{rule_of}
 use Rattle.lister.proofs.FirstDigits.{Begun, begun_first, begun_next, begun_stops, digit_for}
 use Rattle.lister.proofs.WhatIsSettled.{prefix_none, prefix_many, prefix_some}
 use Rattle.lister.proofs.prefix.prefix_rewriting.Lts as lts
@@ -44,10 +42,10 @@ Put c ok =
     c.loop-j.left c.loop-j.table ok c.put_digit.new.left
     c.put_digit.new.table
 
-abbrev left-now : After-leave_unmet → List ℕ
-left-now c = c.leave_unmet.new.left
+abbrev left_now : After-leave_unmet → List ℕ
+left_now c = c.leave_unmet.new.left
 
-long : (c : After-leave_unmet) → length (left-now c) ≡ 85
+long : (c : After-leave_unmet) → length (left_now c) ≡ 85
 long c = c.leave_unmet.auto.left ∙ c.loop-j.invariant.1
 
 -- all p digits are put
@@ -145,13 +143,12 @@ returns-then-left-gt8 c =
     (prefix_many _ _ _ _ c.requires.1 (begun c.before.before.before.before) c.leave_unmet.ensures c.if-left-gt8.true)
 
 pub replaced-requires : goal.replaced-requires
-replaced-requires c =
-    (
-      c.leave_unmet.ensures.left_in,
-      omega (arith, c.if-left-gt8.false),
-      c.requires.1,
-      c.loop-j.invariant.3.fit,
-    )
+replaced-requires c = (
+  c.leave_unmet.ensures.left_in,
+  omega (arith, c.if-left-gt8.false),
+  c.requires.1,
+  c.loop-j.invariant.3.fit,
+)
 
 pub returns : goal.returns
 returns c =

@@ -1,8 +1,5 @@
 -- `lister::prefix::put_digit` meets its contract: digit 0 leaves the atom, another puts it on its head atom.
-use borrow.Author.Rules.{rules}
 use native.Mathlib.Omega.{arith}
-use mathlib.Core.Path.{◌≡◌, sym}
-use Rattle.forming.proofs.Growing.{room_length}
 use Rattle.lister.proofs.Asked.{head_sound, room_left}
 use Rattle.lister.proofs.OneDigit.{digit_tries, put_left, put_sent}
 use Rattle.lister.proofs.prefix.put_digit.Goals as goal

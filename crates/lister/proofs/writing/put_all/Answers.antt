@@ -1,14 +1,10 @@
 -- `lister::writing::put_all` meets its contract. The loop's invariant: what is to be held is what is held already with
 -- the atoms from here on, and there is room for them. The measure is their number.
 use native.Mathlib.Omega.{arith}
-use mathlib.Core.Path.{◌≡◌, refl, sym, ap, ◌∙◌}
-use mathlib.Core.List.{◌++◌}
-use Rattle.covering.specs.Term.{on_question}
-use Rattle.covering.specs.Record.{stored, atoms_at, question_of}
-use Rattle.covering.specs.Buffer.{held_in, AtomsIn, record_room}
+use mathlib.Core.Path.{refl, sym, ap, ◌∙◌}
+use Rattle.covering.specs.Record.{stored}
+use Rattle.covering.specs.Buffer.{held_in, record_room}
 use Rattle.forming.specs.Building.{sub_of}
-use Rattle.unify.specs.InBytes.{in_book}
-use Rattle.lister.specs.Listing.{Filling}
 use Rattle.lister.proofs.RewritingBytes.{rest_in, first_fits, atom_on, filling_length, filling_room, filling_put}
 use Rattle.lister.proofs.RewritingBytes.{first_atom_in, put_none, put_more}
 use Rattle.lister.proofs.writing.put_all.Goals as goal
@@ -17,14 +13,13 @@ pub loop-left-init : goal.loop-left-init
 loop-left-init c = let pre = c.requires in (pre.0, pre.2, refl)
 
 pub put_on-requires : goal.put_on-requires
-put_on-requires c =
-    (
-      filling_room _ _ c.loop-left.invariant.0 (omega arith),
-      c.requires.1,
-      first_atom_in _ _ _ c.loop-left.invariant.1 (omega arith),
-      atom_on c.args.table.now c.requires.3 c.requires.1 _
-          (first_fits _ _ _ c.loop-left.invariant.1 (omega arith)),
-    )
+put_on-requires c = (
+  filling_room _ _ c.loop-left.invariant.0 (omega arith),
+  c.requires.1,
+  first_atom_in _ _ _ c.loop-left.invariant.1 (omega arith),
+  atom_on c.args.table.now c.requires.3 c.requires.1 _
+      (first_fits _ _ _ c.loop-left.invariant.1 (omega arith)),
+)
 
 pub loop-left-preserved : goal.loop-left-preserved
 loop-left-preserved c =

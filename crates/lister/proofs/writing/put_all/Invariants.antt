@@ -1,16 +1,13 @@
 -- `lister::writing::put_all` meets its contract. The loop's invariant: what is to be held is what is held already with
 -- the atoms from here on, and there is room for them. The measure is their number.
-use native.Mathlib.Omega.{arith}
-use mathlib.Core.Path.{◌≡◌, refl, sym, ap, ◌∙◌}
+use mathlib.Core.Path.{◌≡◌}
 use mathlib.Core.List.{◌++◌}
 use Rattle.covering.specs.Term.{on_question}
 use Rattle.covering.specs.Record.{stored, atoms_at, question_of}
-use Rattle.covering.specs.Buffer.{held_in, AtomsIn, record_room}
+use Rattle.covering.specs.Buffer.{AtomsIn}
 use Rattle.forming.specs.Building.{sub_of}
 use Rattle.unify.specs.InBytes.{in_book}
 use Rattle.lister.specs.Listing.{Filling}
-use Rattle.lister.proofs.RewritingBytes.{rest_in, first_fits, atom_on, filling_length, filling_room, filling_put}
-use Rattle.lister.proofs.RewritingBytes.{first_atom_in, put_none, put_more}
 use Rattle.lister.proofs.writing.put_all.Given as goal
 
 abbrev pub invariant-loop-left : goal.invariant-loop-left

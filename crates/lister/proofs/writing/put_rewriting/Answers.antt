@@ -1,7 +1,6 @@
 -- `lister::writing::put_rewriting` meets its contract: the left atoms and the body, each class replaced, then the form of the
 -- whole.
-use borrow.Author.Rules.{rules}
-use mathlib.Core.Path.{◌≡◌, sym, ap, ◌∙◌, subst}
+use mathlib.Core.Path.{sym, ap, ◌∙◌, subst}
 use Rattle.covering.specs.Form.{form}
 use Rattle.covering.specs.Record.{stored, question_of, SoundRecord}
 use Rattle.covering.specs.Buffer.{held_in, record_room}

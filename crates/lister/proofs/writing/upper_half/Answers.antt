@@ -2,10 +2,9 @@
 -- measure is the number of entries left.
 use borrow.Author.Rules.{rules}
 use native.Mathlib.Omega.{arith}
-use Prim.Native.Nat.{◌-◌, ◌≤◌}
-use mathlib.Core.Path.{◌≡◌, ◌∙◌}
-use lib.ListN.{length, length-set}
-use Rattle.lister.proofs.Halves.{Half, half_none, half_more, half_all}
+use mathlib.Core.Path.{◌∙◌}
+use lib.ListN.{length-set}
+use Rattle.lister.proofs.Halves.{half_none, half_more, half_all}
 use Rattle.lister.proofs.writing.upper_half.Goals as goal
 
 pub loop-i-init : goal.loop-i-init

@@ -1,13 +1,12 @@
 -- `printing::lines::put_members` meets its contract: nothing at the end, or else a member and the rest. The measure
 -- is the number of members left.
-use borrow.Author.Rules.{rules}
 use native.Mathlib.Omega.{arith}
 use mathlib.Core.Path.{◌≡◌, sym, ◌∙◌, ap, subst}
 use mathlib.Core.List.{List, ◌++◌}
 use Prim.Native.Nat.{ℕ, ◌+◌, ◌-◌, ◌<◌}
 use lib.ListN.{length}
 use Rattle.covering.specs.Lists.{gather}
-use Rattle.covering.specs.Record.{new_places, stored, width, atoms_at}
+use Rattle.covering.specs.Record.{new_places, stored, atoms_at}
 use Rattle.exploration.specs.Union.{members_from, member_end}
 use Rattle.exploration.specs.Standing.{MemberAt, WrittenAt}
 use Rattle.reading.specs.Word.{byte}

@@ -1,5 +1,4 @@
 -- `printing::lines::put_all` meets its contract.
-use borrow.Author.Rules.{rules}
 use native.Mathlib.Omega.{arith}
 use Rattle.covering.specs.Record.{stored}
 use Rattle.covering.proofs.Places.{sound_more}

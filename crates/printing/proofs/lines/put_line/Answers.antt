@@ -1,5 +1,4 @@
 -- `printing::lines::put_line` meets its contract: five puts one after the other.
-use borrow.Author.Rules.{rules}
 use native.Mathlib.Omega.{arith}
 use Rattle.covering.proofs.Putting.{put_as, then}
 use Rattle.printing.proofs.Texts.{line_is, line_length}

@@ -1,5 +1,4 @@
 -- `printing::lines::put_member` meets its contract.
-use borrow.Author.Rules.{rules}
 use native.Mathlib.Omega.{arith}
 use Rattle.covering.proofs.Putting.{put_as, then}
 use Rattle.printing.proofs.Texts.{member_text, member_length}

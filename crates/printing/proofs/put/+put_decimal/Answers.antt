@@ -1,10 +1,8 @@
 -- `printing::put::put_decimal` meets its contract: the tenth's digits and the last digit. The measure is the number.
 use borrow.Author.Rules.{rules}
 use native.Mathlib.Omega.{arith}
-use Prim.Native.Nat.{ℕ, ◌<◌}
 use Rattle.covering.proofs.Putting.{put_as, then}
 use Rattle.printing.proofs.Decimal.{decimal_one, decimal_more, one_length, more_length}
--- LOOK use Rattle.printing.proofs.put.+put_decimal.Lts-put_decimal as put-decimal-lts
 use Rattle.printing.proofs.put.+put_decimal.Goals as goal
 
 pub put_digit-requires : goal.put_digit-requires

@@ -1,5 +1,4 @@
 -- `printing::put::put_relation` meets its contract: the letter of an answer record, or r and the number.
-use borrow.Author.Rules.{rules}
 use native.Mathlib.Omega.{arith}
 use Rattle.covering.proofs.Putting.{put_as, then}
 use Rattle.printing.proofs.Texts.{answer_text, answer_length, numbered_text, numbered_length}

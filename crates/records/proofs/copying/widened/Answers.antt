@@ -23,14 +23,14 @@ abbrev After-answers : Type 0
 After-answers = lts.After-answers tie.the-claims reads.Pre reads.Post
 
 -- what is known of the record
-is-width : (c : Start) → T (is_width c.args.w)
-is-width c = (desk_passed c.args.w c.args.s.now c.requires).0
+is_width_here : (c : Start) → T (is_width c.args.w)
+is_width_here c = (desk_passed c.args.w c.args.s.now c.requires).0
 
 passed : (c : Start) → Passed (desk c.args.w) c.args.s.now
 passed c = record_passed (desk c.args.w) c.args.s.now (desk_passed c.args.w c.args.s.now c.requires).1
 
 some_place : (c : Start) → 1 ≤ c.args.w
-some_place c = omega (arith, width_least c.args.w (is-width c))
+some_place c = omega (arith, width_least c.args.w (is_width_here c))
 
 few : (c : Start) → answers c.args.s.now + get_or c.args.s.now 0 0 ≤ 12
 few c = desk_few c.args.w (some_place c) c.args.s.now (passed c)
@@ -58,7 +58,7 @@ copy_atoms-requires c =
       λ x m.
           let y : x ∈ atoms_at (holding w) B 1 (answers B + get_or B 0 0) =
           subst (λ (n : ℕ). x ∈ atoms_at (holding w) B 1 n) (sym (counted c.before.before.before)) m in
-          omega (arith, desk_narrow w (some_place c.before.before.before.before.before) B (passed c.before.before.before.before.before) x y, width_most w (is-width c.before.before.before.before.before)),
+          omega (arith, desk_narrow w (some_place c.before.before.before.before.before) B (passed c.before.before.before.before.before) x y, width_most w (is_width_here c.before.before.before.before.before)),
       omega (arith, counted c.before.before.before, few c.before.before.before.before.before),
     )
 

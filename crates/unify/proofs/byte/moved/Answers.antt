@@ -1,5 +1,4 @@
 -- `unify::byte::moved` meets its contract: a variable goes up by 48, a constant stays.
-use borrow.Author.Rules.{rules}
 use Rattle.unify.proofs.TableBytes.{moved_variable, moved_constant}
 use Rattle.unify.proofs.byte.moved.Goals as goal
 

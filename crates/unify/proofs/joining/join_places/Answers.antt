@@ -4,18 +4,14 @@
 -- places left.
 use native.Mathlib.Omega.{arith}
 use mathlib.Core.Path.{ap, ap₂, ◌≡◌, refl, sym, ◌∙◌}
-use Prim.Native.Nat.{◌+◌, ◌-◌, ◌≤◌}
+use Prim.Native.Nat.{◌+◌}
 use native.Mathlib.Nat.{add-zero}
-use mathlib.Core.List.{map}
-use borrow.Author.Tests.{not-true, not-false}
-use lib.Dec.{T}
 use lib.ListN.{length, get_or}
 use Rattle.covering.specs.Term.{on_term}
-use Rattle.covering.specs.Record.{term_of, args_at, used_first}
+use Rattle.covering.specs.Record.{term_of}
 use Rattle.covering.proofs.Bytes.{used_more, term_constant}
-use Rattle.unification.specs.Choice.{place_pairs}
 use Rattle.unification.specs.Step.{up}
-use Rattle.unify.specs.Table.{look, join_table, unify_table}
+use Rattle.unify.specs.Table.{look, join_table}
 use Rattle.unify.specs.InBytes.{in_book, classes_of, merged}
 use Rattle.unify.proofs.TableBytes.{merged_yes, merged_no}
 use Rattle.unify.proofs.Joins.{joins_done, joins_end, joins_short, joins_clash, joins_next}

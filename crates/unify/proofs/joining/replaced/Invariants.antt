@@ -1,15 +1,11 @@
 -- `unify::joining::replaced` meets its contract. The loop's invariant: the entries before i are done, and the table is
 -- as long as it was. The measure is the number of entries left.
-use borrow.Author.Rules.{rules}
-use native.Mathlib.Omega.{arith}
-use mathlib.Core.Path.{◌≡◌, sym, ap, ◌∙◌}
+use mathlib.Core.Path.{◌≡◌}
 use Prim.Native.Nat.{◌-◌, ◌≤◌}
-use lib.ListN.{length, length-set}
+use lib.ListN.{length}
 use mathlib.Core.Bool.{cond}
 use lib.Dec.{eqb}
-use Rattle.unify.specs.InBytes.{classes_of}
-use Rattle.unify.proofs.Each.{done, done_none, done_more, done_all}
-use Rattle.unify.proofs.TableBytes.{put_points}
+use Rattle.unify.proofs.Each.{done}
 use Rattle.unify.proofs.joining.replaced.Given as goal
 
 abbrev pub invariant-loop-i : goal.invariant-loop-i

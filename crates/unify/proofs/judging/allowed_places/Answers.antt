@@ -3,19 +3,10 @@
 -- left.
 use native.Mathlib.Omega.{arith}
 use native.Mathlib.Nat.{add-zero}
-use mathlib.Core.Path.{◌≡◌, refl, sym, ◌∙◌}
-use mathlib.Core.List.{map}
-use Prim.Native.Nat.{◌+◌, ◌-◌, ◌≤◌}
-use borrow.Author.Tests.{not-true, not-false}
-use lib.Dec.{T}
-use Rattle.covering.specs.Lists.{all}
-use Rattle.covering.specs.Term.{on_term}
-use Rattle.covering.specs.Record.{args_at, used_first}
+use mathlib.Core.Path.{refl, sym, ◌∙◌}
 use Rattle.covering.proofs.Bytes.{used_more, term_constant}
-use Rattle.unification.specs.Step.{up}
 use Rattle.unify.specs.InBytes.{in_book}
 use Rattle.unify.proofs.EachTerm.{each_place_end, each_place_fails, each_place_passes, each_place_none}
-use Rattle.unify.proofs.ValidTests.{allowed_byte}
 use Rattle.unify.proofs.judging.allowed_places.Goals as goal
 
 pub loop-j-init : goal.loop-j-init

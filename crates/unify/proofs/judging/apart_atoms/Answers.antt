@@ -1,15 +1,10 @@
 -- `unify::judging::apart_atoms` meets its contract. The loop's invariant: the terms of the atoms are apart exactly
 -- where those of the atoms from here on are, and these are sound. The measure is their number.
 use native.Mathlib.Omega.{arith}
-use mathlib.Core.Path.{◌≡◌, refl, sym, ◌∙◌}
-use borrow.Author.Tests.{not-true, not-false}
-use Rattle.covering.specs.Lists.{all}
-use Rattle.covering.specs.Term.{on_question, terms}
-use Rattle.covering.specs.Record.{stored, atoms_at}
-use Rattle.covering.specs.Buffer.{AtomsIn}
+use mathlib.Core.Path.{refl, sym, ◌∙◌}
+use Rattle.covering.specs.Record.{stored}
 use Rattle.covering.proofs.Bytes.{atom_used}
 use Rattle.covering.proofs.Places.{sound_more}
-use Rattle.unification.specs.Step.{up}
 use Rattle.unify.specs.InBytes.{in_book}
 use Rattle.unify.proofs.EachTerm.{each_term_none, each_term_fails, each_term_passes}
 use Rattle.unify.proofs.ValidTests.{apart_byte}
@@ -19,13 +14,12 @@ pub loop-more-init : goal.loop-more-init
 loop-more-init c = (c.requires.0, refl)
 
 pub apart_places-requires : goal.apart_places-requires
-apart_places-requires c =
-    (
-      omega arith,
-      omega arith,
-      atom_used in_book _ _ (sound_more in_book _ _ _ (omega arith) c.loop-more.invariant.0.sound).0,
-      c.requires.2,
-    )
+apart_places-requires c = (
+  omega arith,
+  omega arith,
+  atom_used in_book _ _ (sound_more in_book _ _ _ (omega arith) c.loop-more.invariant.0.sound).0,
+  c.requires.2,
+)
 
 pub returns-then-not-apart_places : goal.returns-then-not-apart_places
 returns-then-not-apart_places c =

@@ -1,17 +1,12 @@
 -- `unify::judging::apart_atoms` meets its contract. The loop's invariant: the terms of the atoms are apart exactly
 -- where those of the atoms from here on are, and these are sound. The measure is their number.
-use native.Mathlib.Omega.{arith}
-use mathlib.Core.Path.{◌≡◌, refl, sym, ◌∙◌}
-use borrow.Author.Tests.{not-true, not-false}
+use mathlib.Core.Path.{◌≡◌}
 use Rattle.covering.specs.Lists.{all}
 use Rattle.covering.specs.Term.{on_question, terms}
 use Rattle.covering.specs.Record.{stored, atoms_at}
 use Rattle.covering.specs.Buffer.{AtomsIn}
-use Rattle.covering.proofs.Bytes.{atom_used}
-use Rattle.covering.proofs.Places.{sound_more}
 use Rattle.unification.specs.Step.{up}
 use Rattle.unify.specs.InBytes.{in_book}
-use Rattle.unify.proofs.EachTerm.{each_term_none, each_term_fails, each_term_passes}
 use Rattle.unify.proofs.ValidTests.{apart_byte}
 use Rattle.unify.proofs.judging.apart_atoms.Given as goal
 

@@ -1,18 +1,9 @@
 -- `unify::judging::apart_places` meets its contract. The loop's invariant: the terms in the places are apart exactly
 -- where those from the j-th place on are, and these places are sound. The measure is the number of places left.
-use borrow.Author.Rules.{rules}
 use native.Mathlib.Omega.{arith}
 use native.Mathlib.Nat.{add-zero}
-use mathlib.Core.Path.{◌≡◌, refl, sym, ◌∙◌}
-use mathlib.Core.List.{map}
-use Prim.Native.Nat.{◌+◌, ◌-◌, ◌≤◌}
-use borrow.Author.Tests.{not-true, not-false}
-use lib.Dec.{T}
-use Rattle.covering.specs.Lists.{all}
-use Rattle.covering.specs.Term.{on_term}
-use Rattle.covering.specs.Record.{args_at, used_first}
+use mathlib.Core.Path.{refl, sym, ◌∙◌}
 use Rattle.covering.proofs.Bytes.{used_more, term_constant}
-use Rattle.unification.specs.Step.{up}
 use Rattle.unify.specs.InBytes.{in_book}
 use Rattle.unify.proofs.EachTerm.{each_place_end, each_place_fails, each_place_passes, each_place_none}
 use Rattle.unify.proofs.ValidTests.{apart_byte}

@@ -1,13 +1,11 @@
 -- `unify::judging::in_atoms` meets its contract. The loop's invariant: the term stands in the atoms exactly where it
 -- stands in those from here on. The measure is their number.
-use native.Mathlib.Omega.{arith}
-use mathlib.Core.Path.{◌≡◌, refl, sym, ◌∙◌}
+use mathlib.Core.Path.{◌≡◌}
 use Prim.Native.Nat.{◌+◌, ◌*◌, ◌≤◌}
 use lib.ListN.{length}
 use Rattle.covering.specs.Term.{terms}
 use Rattle.covering.specs.Record.{stored, term_of, atoms_at}
 use Rattle.unification.specs.Step.{mem_term}
-use Rattle.unify.proofs.EachTerm.{some_term_none, some_term_hit, some_term_miss}
 use Rattle.unify.proofs.judging.in_atoms.Given as goal
 
 abbrev pub invariant-loop-more : goal.invariant-loop-more

@@ -2,12 +2,9 @@
 -- it stands in those from the j-th on. The measure is the number of places left.
 use native.Mathlib.Omega.{arith}
 use native.Mathlib.Nat.{add-zero}
-use mathlib.Core.Path.{◌≡◌, refl, sym, ◌∙◌}
-use Prim.Native.Nat.{◌+◌, ◌-◌, ◌≤◌}
+use mathlib.Core.Path.{refl, sym, ◌∙◌}
 use borrow.Author.Tests.{eq-eqb, ne_eqb}
-use Rattle.covering.specs.Record.{term_of, args_at}
 use Rattle.covering.proofs.Bytes.{term_same}
-use Rattle.unification.specs.Step.{mem_term}
 use Rattle.unify.proofs.EachTerm.{some_place_end, some_place_hit, some_place_miss, some_place_none}
 use Rattle.unify.proofs.judging.in_places.Goals as goal
 
@@ -24,8 +21,7 @@ returns-then-t-u c =
     ∙ some_place_hit _ _ _ _ 6 (omega arith) c.if-u.false (term_same _ _ ∙ eq-eqb _ _ c.if-t-u.true))
 
 pub loop-j-preserved : goal.loop-j-preserved
-loop-j-preserved c =
-    (
+loop-j-preserved c = (
   omega arith,
   c.loop-j.invariant.1
       ∙ some_place_miss _ _ _ _ 6 (omega arith) c.if-u.false (term_same _ _ ∙ ne_eqb _ _ c.if-t-u.false),

@@ -1,14 +1,9 @@
 -- `unify::judging::in_places` meets its contract. The loop's invariant: the term stands in the places exactly where
 -- it stands in those from the j-th on. The measure is the number of places left.
-use native.Mathlib.Omega.{arith}
-use native.Mathlib.Nat.{add-zero}
-use mathlib.Core.Path.{◌≡◌, refl, sym, ◌∙◌}
+use mathlib.Core.Path.{◌≡◌}
 use Prim.Native.Nat.{◌+◌, ◌-◌, ◌≤◌}
-use borrow.Author.Tests.{eq-eqb, ne_eqb}
 use Rattle.covering.specs.Record.{term_of, args_at}
-use Rattle.covering.proofs.Bytes.{term_same}
 use Rattle.unification.specs.Step.{mem_term}
-use Rattle.unify.proofs.EachTerm.{some_place_end, some_place_hit, some_place_miss, some_place_none}
 use Rattle.unify.proofs.judging.in_places.Given as goal
 
 abbrev pub invariant-loop-j : goal.invariant-loop-j

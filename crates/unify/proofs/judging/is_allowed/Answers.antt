@@ -1,7 +1,6 @@
 -- `unify::judging::is_allowed` meets its contract: a constant and a variable of the body are no existential
 -- variables, and any other term of the head is one. That u stands in the body says that the moved u stands in the
 -- moved body.
-use borrow.Author.Rules.{rules}
 use mathlib.Core.Path.{sym}
 use Rattle.covering.specs.Record.{term_of}
 use Rattle.unify.specs.Table.{tabled}

@@ -1,5 +1,4 @@
 -- `unify::judging::is_apart` meets its contract: terms are the same exactly where their bytes are.
-use borrow.Author.Rules.{rules}
 use mathlib.Core.Path.{sym, ◌∙◌}
 use Rattle.covering.specs.Record.{term_of}
 use Rattle.unify.specs.Table.{tabled}

@@ -1,8 +1,6 @@
 -- `unify::judging::is_safe` meets its contract: it tests what `safe` asks, in its order. The left atoms' terms are
 -- moved by 0, so they stay.
-use borrow.Author.Rules.{rules}
 use mathlib.Core.Path.{sym}
-use borrow.Author.Tests.{not-true, not-false}
 use Rattle.covering.specs.Record.{term_of}
 use Rattle.unify.specs.InBytes.{rule_in, classes_of}
 use Rattle.unify.proofs.ValidTests.{is_var_lem, is_con, left_in, safe_constant, safe_left, safe_body, safe_head}

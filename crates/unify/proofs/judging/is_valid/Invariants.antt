@@ -1,19 +1,13 @@
 -- `unify::judging::is_valid` meets its contract. The loop's invariant: the classes are valid exactly where each term
 -- of the head atoms from here on is allowed, and these atoms are sound. The measure is their number.
-use borrow.Author.Rules.{rules}
-use native.Mathlib.Omega.{arith}
-use mathlib.Core.Path.{◌≡◌, refl, sym, ◌∙◌, ap}
-use borrow.Author.Tests.{not-true, not-false}
+use mathlib.Core.Path.{◌≡◌}
 use Rattle.covering.specs.Lists.{all}
-use Rattle.covering.specs.Term.{Question, on_question, terms}
+use Rattle.covering.specs.Term.{on_question, terms}
 use Rattle.covering.specs.Record.{stored, atoms_at, question_of}
 use Rattle.covering.specs.Buffer.{AtomsIn}
-use Rattle.covering.proofs.Bytes.{atom_used}
-use Rattle.covering.proofs.Places.{sound_more, question_at_lem}
 use Rattle.unification.specs.Step.{up, move, valid}
 use Rattle.unify.specs.Table.{tabled}
 use Rattle.unify.specs.InBytes.{in_book, rule_in, classes_of}
-use Rattle.unify.proofs.EachTerm.{each_term_none, each_term_fails, each_term_passes}
 use Rattle.unify.proofs.ValidTests.{allowed_byte}
 use Rattle.unify.proofs.judging.is_valid.Given as goal
 

@@ -1,5 +1,4 @@
 -- `unify::judging::shifted` meets its contract: a variable goes up by the shift, a constant stays.
-use borrow.Author.Rules.{rules}
 use native.Mathlib.Omega.{arith}
 use Rattle.unify.proofs.ValidTests.{up_variable, up_constant}
 use Rattle.unify.proofs.judging.shifted.Goals as goal

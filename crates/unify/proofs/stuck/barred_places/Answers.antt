@@ -2,19 +2,12 @@
 -- of the two atoms, and the head's places are sound. The measure is the number of places left.
 use native.Mathlib.Omega.{arith}
 use native.Mathlib.Nat.{add-zero}
-use mathlib.Core.Path.{◌≡◌, sym, subst}
+use mathlib.Core.Path.{sym, subst}
 use mathlib.Core.Bool.{true≢false}
-use mathlib.Core.List.{map}
-use Prim.Native.Nat.{◌+◌, ◌-◌, ◌≤◌}
-use lib.Dec.{T}
-use Rattle.covering.specs.Term.{Term, on_term}
-use Rattle.covering.specs.Record.{args_at, used_first}
 use Rattle.covering.proofs.Bytes.{used_more, term_constant}
-use Rattle.unification.specs.Choice.{place_pairs}
-use Rattle.unification.specs.Step.{up}
 use Rattle.unify.specs.InBytes.{in_book}
 use Rattle.unify.specs.Stuck.{TiedTo}
-use Rattle.unify.proofs.StuckBytes.{Within, first_within, rest_within, pairs_more}
+use Rattle.unify.proofs.StuckBytes.{first_within, rest_within, pairs_more}
 use Rattle.unify.proofs.stuck.barred_places.Goals as goal
 
 pub loop-j-init : goal.loop-j-init
@@ -37,8 +30,7 @@ tied_to-requires c = (c.requires.0, c.requires.1, c.requires.2)
 
 pub returns-then-tied_to : goal.returns-then-tied_to
 returns-then-tied_to c =
-    λ e.
-    (
+    λ e. (
       _,
       first_within (pairs_more _ _ _ _ c.loop-j.j 6 (omega arith) c.if-t.false c.if-u.false) c.loop-j.invariant.2,
       subst (TiedTo _ _ _) c.moved.ensures (c.tied_to.ensures c.if-tied_to.true),

@@ -1,20 +1,14 @@
 -- `unify::stuck::barred_places` meets its contract. The loop's invariant: the pairs from the j-th place on are among those
 -- of the two atoms, and the head's places are sound. The measure is the number of places left.
-use native.Mathlib.Omega.{arith}
-use native.Mathlib.Nat.{add-zero}
-use mathlib.Core.Path.{◌≡◌, sym, subst}
-use mathlib.Core.Bool.{true≢false}
 use mathlib.Core.List.{map}
 use Prim.Native.Nat.{◌+◌, ◌-◌, ◌≤◌}
 use lib.Dec.{T}
-use Rattle.covering.specs.Term.{Term, on_term}
+use Rattle.covering.specs.Term.{on_term}
 use Rattle.covering.specs.Record.{args_at, used_first}
-use Rattle.covering.proofs.Bytes.{used_more, term_constant}
 use Rattle.unification.specs.Choice.{place_pairs}
 use Rattle.unification.specs.Step.{up}
 use Rattle.unify.specs.InBytes.{in_book}
-use Rattle.unify.specs.Stuck.{TiedTo}
-use Rattle.unify.proofs.StuckBytes.{Within, first_within, rest_within, pairs_more}
+use Rattle.unify.proofs.StuckBytes.{Within}
 use Rattle.unify.proofs.stuck.barred_places.Given as goal
 
 abbrev pub invariant-loop-j : goal.invariant-loop-j

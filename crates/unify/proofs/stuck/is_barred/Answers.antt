@@ -1,9 +1,7 @@
 -- `unify::stuck::is_barred` meets its contract: the relations differ, or the places say it.
-use borrow.Author.Rules.{rules}
 use native.Mathlib.Omega.{arith}
-use mathlib.Core.Path.{◌≡◌, sym, ◌∙◌}
 use mathlib.Core.Logic.{inl, inr}
-use Rattle.covering.specs.Record.{stored, atom_at}
+use Rattle.covering.specs.Record.{atom_at}
 use Rattle.covering.proofs.Bytes.{atom_used}
 use Rattle.unify.specs.InBytes.{in_book}
 use Rattle.unify.proofs.stuck.is_barred.Goals as goal

@@ -1,17 +1,12 @@
 -- `unify::stuck::is_stuck` meets its contract. The loop's invariant: what bars the atom from the head atoms yet to come bars
 -- it from all. The measure is the number of these.
-use native.Mathlib.Omega.{arith}
-use mathlib.Core.Path.{◌≡◌, sym}
-use mathlib.Core.Bool.{true≢false}
 use Rattle.covering.specs.Record.{stored, atom_at}
 use Rattle.covering.specs.Buffer.{AtomsIn}
-use Rattle.covering.proofs.Places.{sound_more}
-use Rattle.covering.proofs.Tests.{not_false}
 use Rattle.unification.specs.Step.{move}
 use Rattle.unify.specs.Table.{tabled}
 use Rattle.unify.specs.InBytes.{in_book, rule_in, classes_of}
 use Rattle.unify.specs.Stuck.{Barred}
-use Rattle.unify.proofs.StuckBytes.{Each, each_none, each_more}
+use Rattle.unify.proofs.StuckBytes.{Each}
 use Rattle.unify.proofs.stuck.is_stuck.Given as goal
 
 abbrev pub invariant-loop-more : goal.invariant-loop-more

@@ -1,13 +1,11 @@
 -- `unify::stuck::some_stuck` meets its contract. The loop's invariant: the atoms yet to come are among those asked for. The
 -- measure is their number.
 use native.Mathlib.Omega.{arith}
-use mathlib.Core.Path.{◌≡◌, sym}
+use mathlib.Core.Path.{sym}
 use mathlib.Core.Bool.{true≢false}
-use Prim.Native.Nat.{◌+◌, ◌*◌, ◌≤◌}
-use lib.ListN.{length}
-use Rattle.covering.specs.Record.{stored, atoms_at}
+use Rattle.covering.specs.Record.{stored}
 use Rattle.covering.proofs.Places.{atoms_more}
-use Rattle.unify.proofs.StuckBytes.{Within, first_within, rest_within}
+use Rattle.unify.proofs.StuckBytes.{first_within, rest_within}
 use Rattle.unify.proofs.stuck.some_stuck.Goals as goal
 
 pub loop-more-init : goal.loop-more-init
@@ -20,8 +18,7 @@ is_stuck-requires c =
 
 pub returns-then-is_stuck : goal.returns-then-is_stuck
 returns-then-is_stuck c =
-    λ e.
-    (
+    λ e. (
       _,
       first_within (atoms_more stored _ _ _ (omega arith)) c.loop-more.invariant.1,
       c.is_stuck.ensures c.if-is_stuck.true,

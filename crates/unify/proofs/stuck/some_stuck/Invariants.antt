@@ -1,13 +1,9 @@
 -- `unify::stuck::some_stuck` meets its contract. The loop's invariant: the atoms yet to come are among those asked for. The
 -- measure is their number.
-use native.Mathlib.Omega.{arith}
-use mathlib.Core.Path.{◌≡◌, sym}
-use mathlib.Core.Bool.{true≢false}
 use Prim.Native.Nat.{◌+◌, ◌*◌, ◌≤◌}
 use lib.ListN.{length}
 use Rattle.covering.specs.Record.{stored, atoms_at}
-use Rattle.covering.proofs.Places.{atoms_more}
-use Rattle.unify.proofs.StuckBytes.{Within, first_within, rest_within}
+use Rattle.unify.proofs.StuckBytes.{Within}
 use Rattle.unify.proofs.stuck.some_stuck.Given as goal
 
 abbrev pub invariant-loop-more : goal.invariant-loop-more

@@ -2,12 +2,10 @@
 -- atom's. The measure is the number of places left.
 use native.Mathlib.Omega.{arith}
 use native.Mathlib.Nat.{add-zero}
-use mathlib.Core.Path.{◌≡◌, sym, subst}
+use mathlib.Core.Path.{sym}
 use mathlib.Core.Bool.{true≢false}
-use Prim.Native.Nat.{◌+◌, ◌-◌, ◌≤◌}
-use Rattle.covering.specs.Record.{args_at}
 use Rattle.covering.proofs.Bytes.{args_more}
-use Rattle.unify.proofs.StuckBytes.{Within, first_within, rest_within}
+use Rattle.unify.proofs.StuckBytes.{first_within, rest_within}
 use Rattle.unify.proofs.stuck.tied_places.Goals as goal
 
 pub loop-j-init : goal.loop-j-init
@@ -21,8 +19,7 @@ tied_to-requires c = (c.requires.0, c.requires.1, c.requires.2)
 
 pub returns-then-tied_to : goal.returns-then-tied_to
 returns-then-tied_to c =
-    λ e.
-    (
+    λ e. (
       _,
       first_within (args_more _ _ c.loop-j.j 6 (omega arith) c.if-t.false) c.loop-j.invariant.1,
       c.tied_to.ensures c.if-tied_to.true,

@@ -1,13 +1,8 @@
 -- `unify::stuck::tied_places` meets its contract. The loop's invariant: the terms from the j-th place on are among the
 -- atom's. The measure is the number of places left.
-use native.Mathlib.Omega.{arith}
-use native.Mathlib.Nat.{add-zero}
-use mathlib.Core.Path.{◌≡◌, sym, subst}
-use mathlib.Core.Bool.{true≢false}
 use Prim.Native.Nat.{◌+◌, ◌-◌, ◌≤◌}
 use Rattle.covering.specs.Record.{args_at}
-use Rattle.covering.proofs.Bytes.{args_more}
-use Rattle.unify.proofs.StuckBytes.{Within, first_within, rest_within}
+use Rattle.unify.proofs.StuckBytes.{Within}
 use Rattle.unify.proofs.stuck.tied_places.Given as goal
 
 abbrev pub invariant-loop-j : goal.invariant-loop-j

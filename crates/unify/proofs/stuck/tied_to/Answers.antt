@@ -1,8 +1,7 @@
 -- `unify::stuck::tied_to` meets its contract: of a yes it is known that a moved head variable that is none of the body's
 -- stands for the class.
-use borrow.Author.Rules.{rules}
 use native.Mathlib.Omega.{arith}
-use mathlib.Core.Path.{◌≡◌, sym, ◌∙◌, ap}
+use mathlib.Core.Path.{sym, ◌∙◌, ap}
 use mathlib.Core.Bool.{true≢false}
 use Rattle.covering.specs.Record.{term_of}
 use Rattle.unify.proofs.StuckBytes.{tied_means}

@@ -1,7 +1,6 @@
 -- `unify::unknowns::has_unknowns` meets its contract. The loop's invariant: the rule has existential variables exactly where
 -- the head atoms from here on have terms that are unknown to the body. The measure is the number of these atoms.
-use native.Mathlib.Omega.{arith}
-use mathlib.Core.Path.{◌≡◌, refl, sym, ◌∙◌}
+use mathlib.Core.Path.{◌≡◌}
 use Prim.Native.Nat.{◌+◌, ◌*◌, ◌≤◌}
 use lib.ListN.{length}
 use Rattle.covering.specs.Lists.{any}
@@ -9,7 +8,6 @@ use Rattle.covering.specs.Term.{terms}
 use Rattle.covering.specs.Record.{stored, atoms_at}
 use Rattle.unify.specs.InBytes.{rule_in}
 use Rattle.unify.specs.Unknowns.{has_unknowns}
-use Rattle.unify.proofs.EachTerm.{some_term_none, some_term_hit, some_term_miss}
 use Rattle.unify.proofs.ValidTests.{unknown_to}
 use Rattle.unify.proofs.unknowns.has_unknowns.Given as goal
 

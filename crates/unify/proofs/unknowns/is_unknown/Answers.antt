@@ -1,11 +1,7 @@
 -- `unify::unknowns::is_unknown` meets its contract: a constant is no variable, and any other term is one that stands in the
 -- body or does not.
-use borrow.Author.Rules.{rules}
-use mathlib.Core.Path.{sym, ap}
-use mathlib.Core.Bool.{Bool, not, ◌&&◌}
-use Rattle.covering.specs.Term.{terms}
-use Rattle.covering.specs.Record.{stored, term_of, atoms_at}
-use Rattle.unification.specs.Step.{mem_term}
+use mathlib.Core.Path.{ap}
+use mathlib.Core.Bool.{not}
 use Rattle.unify.proofs.ValidTests.{is_var_lem, is_con}
 use Rattle.unify.proofs.unknowns.is_unknown.Goals as goal
 

@@ -2,12 +2,8 @@
 -- body exactly where one from the j-th place on is. The measure is the number of places left.
 use native.Mathlib.Omega.{arith}
 use native.Mathlib.Nat.{add-zero}
-use mathlib.Core.Path.{◌≡◌, refl, sym, ◌∙◌}
-use Prim.Native.Nat.{◌+◌, ◌-◌, ◌≤◌}
-use Rattle.covering.specs.Lists.{any}
-use Rattle.covering.specs.Record.{stored, args_at, atoms_at}
+use mathlib.Core.Path.{refl, sym, ◌∙◌}
 use Rattle.unify.proofs.EachTerm.{some_place_end, some_place_hit, some_place_miss, some_place_none}
-use Rattle.unify.proofs.ValidTests.{unknown_to}
 use Rattle.unify.proofs.unknowns.unknown_in_places.Goals as goal
 
 pub loop-j-init : goal.loop-j-init
@@ -24,8 +20,7 @@ returns-then-is_unknown c =
     (sym c.is_unknown.ensures ∙ c.if-is_unknown.true))
 
 pub loop-j-preserved : goal.loop-j-preserved
-loop-j-preserved c =
-    (
+loop-j-preserved c = (
   omega arith,
   c.loop-j.invariant.1
       ∙ some_place_miss _ _ _ _ 6 (omega arith) c.if-u.false

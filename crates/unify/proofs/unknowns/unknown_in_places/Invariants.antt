@@ -1,12 +1,9 @@
 -- `unify::unknowns::unknown_in_places` meets its contract. The loop's invariant: a term in the places is unknown to the
 -- body exactly where one from the j-th place on is. The measure is the number of places left.
-use native.Mathlib.Omega.{arith}
-use native.Mathlib.Nat.{add-zero}
-use mathlib.Core.Path.{◌≡◌, refl, sym, ◌∙◌}
+use mathlib.Core.Path.{◌≡◌}
 use Prim.Native.Nat.{◌+◌, ◌-◌, ◌≤◌}
 use Rattle.covering.specs.Lists.{any}
 use Rattle.covering.specs.Record.{stored, args_at, atoms_at}
-use Rattle.unify.proofs.EachTerm.{some_place_end, some_place_hit, some_place_miss, some_place_none}
 use Rattle.unify.proofs.ValidTests.{unknown_to}
 use Rattle.unify.proofs.unknowns.unknown_in_places.Given as goal
 

@@ -1,17 +1,14 @@
 -- `writing::union::put_member` meets its contract: the count less the answer records, then the atoms.
-use borrow.Author.Rules.{rules}
 use native.Mathlib.Nat.{mul-le-mul_left}
 use native.Mathlib.Omega.{arith}
-use mathlib.Core.Path.{◌≡◌, sym, ◌∙◌, ap, ap₂, subst}
-use mathlib.Core.List.{List, ◌∷◌, ◌++◌}
+use mathlib.Core.Path.{sym, ◌∙◌, ap₂, subst}
+use mathlib.Core.List.{◌∷◌}
 use Prim.Native.Nat.{ℕ, ◌+◌, ◌*◌, ◌-◌, ◌≤◌}
-use lib.ListN.{length, get_or, set, drop, length-set}
+use lib.ListN.{length, get_or, drop, length-set}
 use Rattle.covering.specs.Lists.{◌∈◌, gather}
 use Rattle.covering.specs.Term.{Question}
-use Rattle.covering.specs.Record.{holding, stored, atoms_at, atom_bytes, question_of}
-use Rattle.covering.specs.Put.{Puts}
+use Rattle.covering.specs.Record.{holding, stored, atom_bytes, question_of}
 use Rattle.covering.proofs.Putting.{put_one, put_as, then}
-use Rattle.writing.specs.Uncounted.{uncounted_record}
 use Rattle.writing.proofs.Members.{member_count, member_within, member_atoms}
 use Rattle.writing.proofs.union.put_member.Lts as lts
 use Rattle.writing.proofs.union.put_member.Reads as reads

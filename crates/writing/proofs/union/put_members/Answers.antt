@@ -1,10 +1,8 @@
 -- `writing::union::put_members` meets its contract. The loop's invariant: the members passed are put. The measure is the
 -- number of members left.
-use borrow.Author.Rules.{rules}
 use native.Mathlib.Omega.{arith}
-use mathlib.Core.Path.{◌≡◌, sym, subst}
-use Prim.Native.Nat.{ℕ, ◌+◌, ◌-◌}
-use lib.ListN.{length}
+use mathlib.Core.Path.{sym, subst}
+use Prim.Native.Nat.{ℕ, ◌+◌}
 use Rattle.writing.proofs.Members.{SoFar, none_put, all_put, one_put, here_is, here_has, here_narrow, same_room}
 use Rattle.writing.proofs.union.put_members.Goals as goal
 

@@ -1,5 +1,4 @@
 -- `writing::union::put_union` meets its contract: the header is put before the members, once it is known where they end.
-use borrow.Author.Rules.{rules}
 use native.Mathlib.Omega.{arith}
 use Rattle.covering.proofs.Putting.{first, kept}
 use Rattle.writing.proofs.union.put_union.Goals as goal

@@ -1,5 +1,4 @@
 -- `writing::words::put_word` meets its contract: both parts of a number below 65,536 are bytes.
-use borrow.Author.Rules.{rules}
 use native.Mathlib.Omega.{arith}
 use mathlib.Core.Path.{◌≡◌, subst}
 use Prim.Native.Nat.{ℕ, ◌+◌, ◌/◌, ◌%◌}
