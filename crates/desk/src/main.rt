@@ -44,13 +44,6 @@ fn read_record<R: Read>(reader: &mut R, buffer: &mut [u8]) -> io::Result<Got>
     Ok(Got::Record(n))
 }
 
-// Whether the bytes are the same.
-fn same(a: &[u8], b: &[u8]) -> bool
-    ensures { result ≡ list_eq a.now b.now }
-{
-    a == b
-}
-
 // Writes which record is kept: the first wherever the bytes are its own, since of two that are the same it is the one.
 fn tell_kept<'a, W: Write>(
     out: &mut W,
@@ -62,7 +55,7 @@ fn tell_kept<'a, W: Write>(
     if kept.len() == 0 {
         return out.write_all(b"none");
     }
-    if same(kept, first) {
+    if kept == first {
         return out.write_all(b"first");
     }
     out.write_all(b"second")

@@ -30,8 +30,7 @@ fn atom<W: Write>(out: &mut W, r: &[u8], i: usize) -> io::Result<()>
     requires { i + 7 ≤ length r.now }
 {
     relation(out, r[i])?;
-    let mut j: usize = 1;
-    while j < 7 {
+    for j in 1usize..7 {
         let b = r[i + j];
         if b == 255 {
             break;
@@ -42,7 +41,6 @@ fn atom<W: Write>(out: &mut W, r: &[u8], i: usize) -> io::Result<()>
             out.write_all(b",")?;
         }
         term(out, b)?;
-        j += 1;
     }
     out.write_all(b")")
 }
@@ -62,12 +60,10 @@ fn goes(first: &[u8], i: usize, second: &[u8], k: usize, map: &[u8; MAP]) -> boo
     if first[i] != second[k] {
         return false;
     }
-    let mut j: usize = 1;
-    while j < 7 {
+    for j in 1usize..7 {
         if image(map, first[i + j]) != second[k + j] {
             return false;
         }
-        j += 1;
     }
     true
 }
@@ -83,29 +79,24 @@ fn tell_met<W: Write>(
 ) -> io::Result<()>
     requires { (i + 7 ≤ length first.now) × (1 + w * 7 ≤ length second.now) }
 {
-    let mut k: usize = 1;
-    let mut more = w;
-    while 0 < more {
-        if goes(first, i, second, k, map) {
-            return atom(out, second, k);
+    for k in 0..w {
+        let at = 1 + 7 * k;
+        if goes(first, i, second, at, map) {
+            return atom(out, second, at);
         }
-        k += 7;
-        more -= 1;
     }
     Ok(())
 }
 
 // A line for each variable that goes somewhere.
 fn tell_variables<W: Write>(out: &mut W, map: &[u8; MAP]) -> io::Result<()> {
-    let mut v: usize = 0;
-    while v < MAP {
+    for v in 0..MAP {
         if map[v] != 255 {
             term(out, v as u8)?;
             out.write_all(b" to ")?;
             term(out, map[v])?;
             out.write_all(b"\n")?;
         }
-        v += 1;
     }
     Ok(())
 }
@@ -121,15 +112,12 @@ fn tell_atoms<W: Write>(
 ) -> io::Result<()>
     requires { (1 + n * 7 ≤ length first.now) × (1 + w * 7 ≤ length second.now) }
 {
-    let mut i: usize = 1;
-    let mut more = n;
-    while 0 < more {
+    for k in 0..n {
+        let i = 1 + 7 * k;
         atom(out, first, i)?;
         out.write_all(b" meets ")?;
         tell_met(out, first, i, second, w, map)?;
         out.write_all(b"\n")?;
-        i += 7;
-        more -= 1;
     }
     Ok(())
 }

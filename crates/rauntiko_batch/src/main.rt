@@ -20,17 +20,8 @@ fn least(a: usize, b: usize) -> usize
 
 // Reads so many bytes for nothing, and answers whether they were there.
 fn skip<R: Read>(reader: &mut R, n: usize) -> io::Result<bool> {
-    let mut left = n;
-    while 0 < left {
-        let step = least(left, 4096);
-        let mut bytes = [0u8; 4096];
-        let got = fill(reader, &mut bytes[..step])?;
-        if got < step {
-            return Ok(false);
-        }
-        left -= step;
-    }
-    Ok(true)
+    let skipped = io::copy(&mut reader.take(n as u64), &mut io::sink())?;
+    Ok(skipped == n as u64)
 }
 
 // Answers the next book, and whether there was one. Its answer is on its way before the next book is waited for.
