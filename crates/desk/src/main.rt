@@ -1,8 +1,8 @@
-// The search desk on a pair of records, or on many in one start: for each pair it reads a byte, how many places an atom of
-// them has, and two records, each a length of four bytes, the low one first, and the record's bytes. It writes a line such as `covers 1 keep first` (or `second`, or
-// `none`); then of the record that is kept, for each variable where it goes, `v0 to c1`, and for each atom which atom of
-// the other it meets, `r0(v0) meets r0(c1)`; then a line with a single full stop. It ends at a pair that is not all
-// there, or at a record that is longer than the buffer.
+// The search desk on a pair of records, or on many in one start: for each pair it reads a byte, how many places an atom
+// of them has, and two records, each a length of four bytes, the low one first, and the record's bytes. It writes a
+// line such as `covers 1 keep first` (or `second`, or `none`); then of the record that is kept, for each variable where
+// it goes, `v0 to c1`, and for each atom which atom of the other it meets, `r0(v0) meets r0(c1)`; then a line with a
+// single full stop. It ends at a pair that is not all there, or at a record that is longer than the buffer.
 #![tactic(auto)]
 
 mod meeting;
