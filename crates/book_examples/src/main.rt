@@ -67,10 +67,8 @@ fn show_new<W: Write>(out: &mut W, book: &[u8]) -> io::Result<()>
     let h = book::read(book);
     let n = h.rules;
     let at = book::starts(book);
-    let mut k: usize = 0;
-    while k < n {
+    for k in 0..n {
         show_rule(out, book, at[k])?;
-        k = k + 1;
     }
     let place = at[n];
     write!(out, "{place} is the question's place\n")?;

@@ -89,8 +89,7 @@ fn show_atom<W: Write>(out: &mut W, record: &[u8; RECORD], i: usize) -> io::Resu
 {
     let relation = record[i];
     write!(out, " r{relation}(")?;
-    let mut w: usize = 0;
-    while w < 6 {
+    for w in 0usize..6 {
         let b = record[i + 1 + w];
         if b != 255 {
             if 0 < w {
@@ -98,7 +97,6 @@ fn show_atom<W: Write>(out: &mut W, record: &[u8; RECORD], i: usize) -> io::Resu
             }
             show_term(out, b)?;
         }
-        w += 1;
     }
     out.write_all(b")")
 }
@@ -111,12 +109,10 @@ fn wide(b: u8) -> usize {
 fn show<W: Write>(out: &mut W, choice: usize, record: &[u8; RECORD]) -> io::Result<()> {
     write!(out, "{choice}:")?;
     let n = wide(record[0]);
-    let mut i: usize = 0;
-    while i < 12 {
+    for i in 0usize..12 {
         if i < n {
             show_atom(out, record, 1 + 7 * i)?;
         }
-        i += 1;
     }
     out.write_all(b"\n")
 }
