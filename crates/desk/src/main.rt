@@ -1,17 +1,22 @@
-// The search desk on a pair of records, or on many in one start: for each pair it reads a byte, how many places an atom of
-// them has, and two records, each a length of four bytes, the low one first, and the record's bytes. It writes a line such as `covers 1 keep first` (or `second`, or
-// `none`); then of the record that is kept, for each variable where it goes, `v0 to c1`, and for each atom which atom of
-// the other it meets, `r0(v0) meets r0(c1)`; then a line with a single full stop. It ends at a pair that is not all
-// there, or at a record that is longer than the buffer.
+// The search desk on a pair of records, or on many in one start: for each pair it reads a byte, how many places an atom
+// of them has, and two records, each a length of four bytes, the low one first, and the record's bytes. It writes a
+// line such as `covers 1 keep first` (or `second`, or `none`); then of the record that is kept, for each variable where
+// it goes, `v0 to c1`, and for each atom which atom of the other it meets, `r0(v0) meets r0(c1)`; then a line with a
+// single full stop. It ends at a pair that is not all there, or at a record that is longer than the buffer.
 #![tactic(auto)]
 
 mod meeting;
 
-ghost use Rattle.std.specs.Prelude.{◌≡◌, ◌<◌, length};
+ghost use Rattle.std.specs.Prelude.{◌≡◌, length, IfOk};
 ghost use Rattle.desk.specs.Got.{Within};
 
 use crate::meeting::tell_map;
-use libc::{STDIN_FILENO, STDOUT_FILENO};
+use input::{fill, size, wide};
+use std::io;
+use std::io::{BufReader, BufWriter, Read, Write};
+
+// The most bytes of a record that are read.
+const RECORD: usize = 4096;
 
 // A record that was read, and its length; or the end of the input.
 #[derive(Drop)]
@@ -20,118 +25,102 @@ enum Got {
     End,
 }
 
-fn wide(x: u8) -> usize
-    ensures { (result ≡ x) × (result < 256) }
-{
-    x as usize
-}
-
-// The number in four bytes, the low one first.
-fn size(s: &[u8; 4]) -> usize {
-    wide(s[0]) + 256 * (wide(s[1]) + 256 * (wide(s[2]) + 256 * wide(s[3])))
-}
-
 // Reads a record to the front of the buffer.
-fn read_record(buffer: &mut [u8]) -> Got
-    ensures { Within (length buffer.new) result }
+fn read_record<R: Read>(reader: &mut R, buffer: &mut [u8]) -> io::Result<Got>
+    ensures within { IfOk result (λ got. Within (length buffer.new) got) }
+    ensures len { length buffer.new ≡ length buffer.old }
 {
     let mut head = [0u8; 4];
-    if io::read_full(STDIN_FILENO, &mut head) < 4 {
-        return Got::End;
+    if fill(reader, &mut head)? < 4 {
+        return Ok(Got::End);
     }
     let n = size(&head);
     if buffer.len() < n {
-        return Got::End;
+        return Ok(Got::End);
     }
-    if io::read_full(STDIN_FILENO, &mut buffer[..n]) < n {
-        return Got::End;
+    if fill(reader, &mut buffer[..n])? < n {
+        return Ok(Got::End);
     }
-    Got::Record(n)
-}
-
-pub fn put(text: &[u8]) {
-    io::write_all(STDOUT_FILENO, text);
-}
-
-// Whether the bytes are the same.
-fn same(a: &[u8], b: &[u8]) -> bool {
-    if a.len() != b.len() {
-        return false;
-    }
-    let mut i: usize = 0;
-    while i < a.len() {
-        if a[i] != b[i] {
-            return false;
-        }
-        i += 1;
-    }
-    true
+    Ok(Got::Record(n))
 }
 
 // Writes which record is kept: the first wherever the bytes are its own, since of two that are the same it is the one.
-fn tell_kept<'a>(first: &'a [u8], second: &'a [u8], w: usize) {
+fn tell_kept<'a, W: Write>(
+    out: &mut W,
+    first: &'a [u8],
+    second: &'a [u8],
+    w: usize,
+) -> io::Result<()> {
     let kept = cover::keep(first, second, w);
     if kept.len() == 0 {
-        put(b"none");
-        return;
+        return out.write_all(b"none");
     }
-    if same(kept, first) {
-        put(b"first");
-        return;
+    if kept == first {
+        return out.write_all(b"first");
     }
-    put(b"second");
+    out.write_all(b"second")
 }
 
 // Writes by which map the record that is kept covers the other.
-fn tell_why(first: &[u8], second: &[u8], w: usize) {
+fn tell_why<W: Write>(out: &mut W, first: &[u8], second: &[u8], w: usize) -> io::Result<()> {
     let kept = cover::kept(first, second, w);
     let map = kept.map;
     let which = kept.which;
     if which == 1 {
-        tell_map(first, second, w, &map);
+        tell_map(out, first, second, w, &map)?;
     }
     if which == 2 {
-        tell_map(second, first, w, &map);
+        tell_map(out, second, first, w, &map)?;
     }
+    Ok(())
 }
 
 // Answers a pair.
-fn answer<'a>(first: &'a [u8], second: &'a [u8], w: usize) {
+fn answer<'a, W: Write>(
+    out: &mut W,
+    first: &'a [u8],
+    second: &'a [u8],
+    w: usize,
+) -> io::Result<()> {
     let covered = cover::covers(first, second, w);
-    put(b"covers ");
-    io::print_decimal(STDOUT_FILENO, covered.number as u64);
-    put(b" keep ");
-    tell_kept(first, second, w);
-    put(b"\n");
-    tell_why(first, second, w);
-    put(b".\n");
+    let number = covered.number;
+    write!(out, "covers {number} keep ")?;
+    tell_kept(out, first, second, w)?;
+    out.write_all(b"\n")?;
+    tell_why(out, first, second, w)?;
+    out.write_all(b".\n")
 }
 
-// Answers the next pair, and whether there was one.
-fn answer_next() -> bool {
+// Answers the next pair, and whether there was one. Its answer is on its way before the next pair is waited for.
+fn answer_next<R: Read, W: Write>(reader: &mut R, out: &mut W) -> io::Result<bool> {
     let mut places = [0u8; 1];
-    if io::read_full(STDIN_FILENO, &mut places) < 1 {
-        return false;
+    if fill(reader, &mut places)? < 1 {
+        return Ok(false);
     }
-    let mut first = io::buffer();
-    let read = read_record(&mut first);
+    let mut first = [0u8; RECORD];
+    let read = read_record(reader, &mut first)?;
     let Got::Record(n) = read else {
-        return false;
+        return Ok(false);
     };
-    let mut second = io::buffer();
-    let read_second = read_record(&mut second);
+    let mut second = [0u8; RECORD];
+    let read_second = read_record(reader, &mut second)?;
     let Got::Record(m) = read_second else {
-        return false;
+        return Ok(false);
     };
-    answer(&first[..n], &second[..m], wide(places[0]));
-    true
+    answer(out, &first[..n], &second[..m], wide(places[0]))?;
+    out.flush()?;
+    Ok(true)
 }
 
-// A proved loop has to end, and nothing says that the input does: the turns are counted down, from a number that no run
-// uses up.
-fn main() {
-    let mut turns = u64::MAX;
-    while turns > 0 && answer_next() {
-        turns -= 1;
+// A proved loop has to end, and nothing says that the input does: the turns are counted, up to a number that no run
+// comes to.
+fn main(rt: HostRuntime) -> io::Result<()> {
+    let mut reader = BufReader::new(rt.alloc(), rt.stdin())?;
+    let mut out = BufWriter::new(rt.alloc(), rt.stdout())?;
+    for _ in 0..u64::MAX {
+        if !answer_next(&mut reader, &mut out)? {
+            break;
+        }
     }
+    Ok(())
 }

@@ -2,53 +2,47 @@
 ghost use Rattle.std.specs.Prelude.{◌+◌, ◌*◌, ◌≤◌, length};
 ghost use Rattle.covering.specs.Buffer.{record_room};
 
-use crate::put;
 use cover::MAP;
 use covering::RECORD;
-use libc::STDOUT_FILENO;
 use records::{is_record, widened};
+use std::io;
+use std::io::Write;
 
 // A term: `v` a variable, `c` a constant.
-fn term(b: u8) {
+fn term<W: Write>(out: &mut W, b: u8) -> io::Result<()> {
     if b < 128 {
-        put(b"v");
-        io::print_decimal(STDOUT_FILENO, b as u64);
-        return;
+        return write!(out, "v{b}");
     }
-    put(b"c");
-    io::print_decimal(STDOUT_FILENO, (b - 128) as u64);
+    let constant = b - 128;
+    write!(out, "c{constant}")
 }
 
 // A relation, `a` for the answer record's.
-fn relation(b: u8) {
+fn relation<W: Write>(out: &mut W, b: u8) -> io::Result<()> {
     if b == 255 {
-        put(b"a");
-        return;
+        return out.write_all(b"a");
     }
-    put(b"r");
-    io::print_decimal(STDOUT_FILENO, b as u64);
+    write!(out, "r{b}")
 }
 
 // The atom that starts at i, as the printing program prints it.
-fn atom(r: &[u8], i: usize)
+fn atom<W: Write>(out: &mut W, r: &[u8], i: usize) -> io::Result<()>
     requires { i + 7 ≤ length r.now }
 {
-    relation(r[i]);
-    let mut j: usize = 1;
-    while j < 7 {
+    relation(out, r[i])?;
+    for j in 1usize..7 {
         let b = r[i + j];
         if b == 255 {
             break;
         }
         if j == 1 {
-            put(b"(");
+            out.write_all(b"(")?;
         } else {
-            put(b",");
+            out.write_all(b",")?;
         }
-        term(b);
-        j += 1;
+        term(out, b)?;
     }
-    put(b")");
+    out.write_all(b")")
 }
 
 // Where a place goes by the map: a constant and an unused place stay.
@@ -66,60 +60,66 @@ fn goes(first: &[u8], i: usize, second: &[u8], k: usize, map: &[u8; MAP]) -> boo
     if first[i] != second[k] {
         return false;
     }
-    let mut j: usize = 1;
-    while j < 7 {
+    for j in 1usize..7 {
         if image(map, first[i + j]) != second[k + j] {
             return false;
         }
-        j += 1;
     }
     true
 }
 
 // The atom of second, of its w, that the atom of first at i meets: the first that it goes to.
-fn tell_met(first: &[u8], i: usize, second: &[u8], w: usize, map: &[u8; MAP])
+fn tell_met<W: Write>(
+    out: &mut W,
+    first: &[u8],
+    i: usize,
+    second: &[u8],
+    w: usize,
+    map: &[u8; MAP],
+) -> io::Result<()>
     requires { (i + 7 ≤ length first.now) × (1 + w * 7 ≤ length second.now) }
 {
-    let mut k: usize = 1;
-    let mut more = w;
-    while 0 < more {
-        if goes(first, i, second, k, map) {
-            atom(second, k);
-            return;
+    for k in 0..w {
+        let at = 1 + 7 * k;
+        if goes(first, i, second, at, map) {
+            return atom(out, second, at);
         }
-        k += 7;
-        more -= 1;
     }
+    Ok(())
 }
 
 // A line for each variable that goes somewhere.
-fn tell_variables(map: &[u8; MAP]) {
-    let mut v: usize = 0;
-    while v < MAP {
+fn tell_variables<W: Write>(out: &mut W, map: &[u8; MAP]) -> io::Result<()> {
+    for v in 0..MAP {
         if map[v] != 255 {
-            term(v as u8);
-            put(b" to ");
-            term(map[v]);
-            put(b"\n");
+            term(out, v as u8)?;
+            out.write_all(b" to ")?;
+            term(out, map[v])?;
+            out.write_all(b"\n")?;
         }
-        v += 1;
     }
+    Ok(())
 }
 
 // A line for each of the n atoms of first.
-fn tell_atoms(first: &[u8], n: usize, second: &[u8], w: usize, map: &[u8; MAP])
+fn tell_atoms<W: Write>(
+    out: &mut W,
+    first: &[u8],
+    n: usize,
+    second: &[u8],
+    w: usize,
+    map: &[u8; MAP],
+) -> io::Result<()>
     requires { (1 + n * 7 ≤ length first.now) × (1 + w * 7 ≤ length second.now) }
 {
-    let mut i: usize = 1;
-    let mut more = n;
-    while 0 < more {
-        atom(first, i);
-        put(b" meets ");
-        tell_met(first, i, second, w, map);
-        put(b"\n");
-        i += 7;
-        more -= 1;
+    for k in 0..n {
+        let i = 1 + 7 * k;
+        atom(out, first, i)?;
+        out.write_all(b" meets ")?;
+        tell_met(out, first, i, second, w, map)?;
+        out.write_all(b"\n")?;
     }
+    Ok(())
 }
 
 // How many atoms, its answer record among them, a record has, as it is held inside.
@@ -134,17 +134,23 @@ fn atoms_in(record: &[u8; RECORD]) -> usize
 }
 
 // A line for each variable, and one for each atom of first, both told as they are held inside, whatever their width.
-pub fn tell_map(first: &[u8], second: &[u8], w: usize, map: &[u8; MAP]) {
+pub fn tell_map<W: Write>(
+    out: &mut W,
+    first: &[u8],
+    second: &[u8],
+    w: usize,
+    map: &[u8; MAP],
+) -> io::Result<()> {
     if !is_record(first, w) {
-        return;
+        return Ok(());
     }
     if !is_record(second, w) {
-        return;
+        return Ok(());
     }
     let one = widened(first, w);
     let two = widened(second, w);
-    tell_variables(map);
+    tell_variables(out, map)?;
     let n = atoms_in(&one);
     let m = atoms_in(&two);
-    tell_atoms(&one, n, &two, m, map);
+    tell_atoms(out, &one, n, &two, m, map)
 }

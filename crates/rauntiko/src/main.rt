@@ -2,12 +2,16 @@
 // answer.
 #![tactic(auto)]
 
-use libc::{STDIN_FILENO, STDOUT_FILENO};
+use input::fill;
+use std::io;
 
-fn main() {
-    let mut book = io::large_buffer();
-    let n = io::read_full(STDIN_FILENO, &mut book);
+// The most bytes of a book that are looked at.
+const INPUT: usize = 65536;
+
+fn main(rt: HostRuntime) -> io::Result<()> {
+    let mut book = [0u8; INPUT];
+    let n = fill(&mut rt.stdin(), &mut book)?;
     let mut text = [0u8; printing::TEXT];
     let end = printing::answer(&book[..n], &mut text);
-    io::write_all(STDOUT_FILENO, &text[..end]);
+    rt.write_all(&text[..end])
 }

@@ -3,23 +3,14 @@
 // all there is left out.
 #![tactic(auto)]
 
-ghost use Rattle.std.specs.Prelude.{◌≡◌, ◌<◌, min};
+ghost use Rattle.std.specs.Prelude.{◌≡◌, min};
 
-use libc::{STDIN_FILENO, STDOUT_FILENO};
+use input::{fill, size};
+use std::io;
+use std::io::{BufReader, BufWriter, Read, Write};
 
 // The most bytes of a book that are looked at.
 const INPUT: usize = 65536;
-
-fn wide(x: u8) -> usize
-    ensures { (result ≡ x) × (result < 256) }
-{
-    x as usize
-}
-
-// The number in four bytes, the low one first.
-fn size(s: &[u8; 4]) -> usize {
-    wide(s[0]) + 256 * (wide(s[1]) + 256 * (wide(s[2]) + 256 * wide(s[3])))
-}
 
 fn least(a: usize, b: usize) -> usize
     ensures { result ≡ min a b }
@@ -28,46 +19,43 @@ fn least(a: usize, b: usize) -> usize
 }
 
 // Reads so many bytes for nothing, and answers whether they were there.
-fn skip(n: usize) -> bool {
-    let mut left = n;
-    while 0 < left {
-        let step = least(left, 4096);
-        let mut bytes = io::buffer();
-        let got = io::read_full(STDIN_FILENO, &mut bytes[..step]);
-        if got < step {
-            return false;
-        }
-        left -= step;
-    }
-    true
+fn skip<R: Read>(reader: &mut R, n: usize) -> io::Result<bool> {
+    let skipped = io::copy(&mut reader.take(n as u64), &mut io::sink())?;
+    Ok(skipped == n as u64)
 }
 
-// Answers the next book, and whether there was one.
-fn answer_next() -> bool {
+// Answers the next book, and whether there was one. Its answer is on its way before the next book is waited for.
+fn answer_next<R: Read, W: Write>(reader: &mut R, out: &mut W) -> io::Result<bool> {
     let mut head = [0u8; 4];
-    if io::read_full(STDIN_FILENO, &mut head) < 4 {
-        return false;
+    if fill(reader, &mut head)? < 4 {
+        return Ok(false);
     }
     let length = size(&head);
     let kept = least(length, INPUT);
-    let mut book = io::large_buffer();
-    if io::read_full(STDIN_FILENO, &mut book[..kept]) < kept {
-        return false;
+    let mut book = [0u8; INPUT];
+    if fill(reader, &mut book[..kept])? < kept {
+        return Ok(false);
     }
-    if !skip(length - kept) {
-        return false;
+    if !skip(reader, length - kept)? {
+        return Ok(false);
     }
     let mut text = [0u8; printing::TEXT];
     let end = printing::answer(&book[..kept], &mut text);
-    io::write_all(STDOUT_FILENO, &text[..end]);
-    io::write_all(STDOUT_FILENO, b".\n")
+    out.write_all(&text[..end])?;
+    out.write_all(b".\n")?;
+    out.flush()?;
+    Ok(true)
 }
 
-// A proved loop has to end, and nothing says that the input does: the turns are counted down, from a number that no run
-// uses up.
-fn main() {
-    let mut turns = u64::MAX;
-    while turns > 0 && answer_next() {
-        turns -= 1;
+// A proved loop has to end, and nothing says that the input does: the turns are counted, up to a number that no run
+// comes to.
+fn main(rt: HostRuntime) -> io::Result<()> {
+    let mut reader = BufReader::new(rt.alloc(), rt.stdin())?;
+    let mut out = BufWriter::new(rt.alloc(), rt.stdout())?;
+    for _ in 0..u64::MAX {
+        if !answer_next(&mut reader, &mut out)? {
+            break;
+        }
     }
+    Ok(())
 }

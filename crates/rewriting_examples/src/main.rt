@@ -11,7 +11,8 @@ ghost use Rattle.covering.specs.Buffer.{record_room};
 use book::Parts;
 use covering::RECORD;
 use forms::{BOOK, to_new};
-use libc::STDOUT_FILENO;
+use std::io;
+use std::io::{BufWriter, Write};
 
 // No choice has a number as large: five digits' values for each of eight atoms.
 const MOST: usize = 390625;
@@ -73,48 +74,31 @@ fn twins() -> [u8; 59] {
        \x03\x02\xff\xff\xff"
 }
 
-fn put(text: &[u8]) {
-    io::write_all(STDOUT_FILENO, text);
-}
-
-fn number(n: usize) {
-    io::print_decimal(STDOUT_FILENO, n as u64);
-}
-
-fn byte(b: u8) {
-    io::print_decimal(STDOUT_FILENO, b as u64);
-}
-
 // A term: v and a variable's number, or c and a constant's.
-fn show_term(b: u8) {
+fn show_term<W: Write>(out: &mut W, b: u8) -> io::Result<()> {
     if b < 128 {
-        put(b"v");
-        byte(b);
-        return;
+        return write!(out, "v{b}");
     }
-    put(b"c");
-    byte(b - 128);
+    let constant = b - 128;
+    write!(out, "c{constant}")
 }
 
 // The atom at i: its relation, and its terms with commas between.
-fn show_atom(record: &[u8; RECORD], i: usize)
-    requires { i + 7 ≤ recordRoom }
+fn show_atom<W: Write>(out: &mut W, record: &[u8; RECORD], i: usize) -> io::Result<()>
+    requires { i + 7 ≤ record_room }
 {
-    put(b" r");
-    byte(record[i]);
-    put(b"(");
-    let mut w: usize = 0;
-    while w < 6 {
+    let relation = record[i];
+    write!(out, " r{relation}(")?;
+    for w in 0usize..6 {
         let b = record[i + 1 + w];
         if b != 255 {
             if 0 < w {
-                put(b",");
+                out.write_all(b",")?;
             }
-            show_term(b);
+            show_term(out, b)?;
         }
-        w += 1;
     }
-    put(b")");
+    out.write_all(b")")
 }
 
 fn wide(b: u8) -> usize {
@@ -122,22 +106,19 @@ fn wide(b: u8) -> usize {
 }
 
 // A choice's number, and its rewriting.
-fn show(choice: usize, record: &[u8; RECORD]) {
-    number(choice);
-    put(b":");
+fn show<W: Write>(out: &mut W, choice: usize, record: &[u8; RECORD]) -> io::Result<()> {
+    write!(out, "{choice}:")?;
     let n = wide(record[0]);
-    let mut i: usize = 0;
-    while i < 12 {
+    for i in 0usize..12 {
         if i < n {
-            show_atom(record, 1 + 7 * i);
+            show_atom(out, record, 1 + 7 * i)?;
         }
-        i += 1;
     }
-    put(b"\n");
+    out.write_all(b"\n")
 }
 
 // The question's rewritings by a rule, choices ascending.
-fn list(question: &[u8; RECORD], book: &[u8], rule: Parts)
+fn list<W: Write>(out: &mut W, question: &[u8; RECORD], book: &[u8], rule: Parts) -> io::Result<()>
     requires { QuestionIn question.now × RuleIn book.now rule }
 {
     let unknowns = lister::has_unknowns(book, rule);
@@ -147,49 +128,50 @@ fn list(question: &[u8; RECORD], book: &[u8], rule: Parts)
         let r = lister::next(question, book, rule, unknowns, from, &mut rewriting);
         let found = r.found;
         if !found {
-            return;
+            return Ok(());
         }
         let choice = r.choice;
-        show(choice, &rewriting);
+        show(out, choice, &rewriting)?;
         from = choice + 1;
     }
+    Ok(())
 }
 
 // The rewritings of a book's question by its first rule.
-fn tell(name: &[u8], book: &[u8]) {
-    put(name);
-    put(b"\n");
+fn tell<W: Write>(out: &mut W, name: &[u8], book: &[u8]) -> io::Result<()> {
+    out.write_all(name)?;
+    out.write_all(b"\n")?;
     let mut wide = [0u8; BOOK];
     let copy = to_new(book, &mut wide);
     if copy.number != 0 {
-        put(b"refused\n");
-        return;
+        return out.write_all(b"refused\n");
     }
-    tell_new(&wide[..copy.place]);
+    tell_new(out, &wide[..copy.place])
 }
 
 // The same of a sound book in the new form.
-fn tell_new(book: &[u8])
+fn tell_new<W: Write>(out: &mut W, book: &[u8]) -> io::Result<()>
     requires { SoundBook book.now × (form_of book.now ≡ new) }
 {
     let h = book::read(book);
     if h.rules == 0 {
-        put(b"no rule\n");
-        return;
+        return out.write_all(b"no rule\n");
     }
     let at = book::starts(book);
     let question = book::question(book);
-    list(&question, book, book::rule_at(book, at[0]));
+    list(out, &question, book, book::rule_at(book, at[0]))
 }
 
-fn main() {
-    tell(b"example 4", &example4());
-    tell(b"example 5", &example5());
-    tell(b"example 6", &example6());
-    tell(b"example 7", &example7());
-    tell(b"example 8", &example8());
-    tell(b"example 9", &example9());
-    tell(b"000, Example 1", &one_piece());
-    tell(b"000, Example 3", &two_pieces());
-    tell(b"002, twins", &twins());
+fn main(rt: HostRuntime) -> io::Result<()> {
+    let mut out = BufWriter::new(rt.alloc(), rt.stdout())?;
+    tell(&mut out, b"example 4", &example4())?;
+    tell(&mut out, b"example 5", &example5())?;
+    tell(&mut out, b"example 6", &example6())?;
+    tell(&mut out, b"example 7", &example7())?;
+    tell(&mut out, b"example 8", &example8())?;
+    tell(&mut out, b"example 9", &example9())?;
+    tell(&mut out, b"000, Example 1", &one_piece())?;
+    tell(&mut out, b"000, Example 3", &two_pieces())?;
+    tell(&mut out, b"002, twins", &twins())?;
+    out.flush()
 }

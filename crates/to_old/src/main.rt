@@ -2,26 +2,25 @@
 // writes the copy, or a line with the refusal.
 #![tactic(auto)]
 
-use libc::{STDIN_FILENO, STDOUT_FILENO};
+use input::fill;
+use std::io;
+
+// The most bytes of a book that are looked at.
+const INPUT: usize = 65536;
 
 // The line of a refusal.
-fn print_refusal(number: u8, place: usize) {
-    io::write_all(STDOUT_FILENO, b"refused ");
-    io::print_decimal(STDOUT_FILENO, number as u64);
-    io::write_all(STDOUT_FILENO, b" at ");
-    io::print_decimal(STDOUT_FILENO, place as u64);
-    io::write_all(STDOUT_FILENO, b"\n");
+fn print_refusal(rt: &impl Print, number: u8, place: usize) -> io::Result<()> {
+    println!(rt; "refused {number} at {place}")
 }
 
-fn main() {
-    let mut book = io::large_buffer();
-    let n = io::read_full(STDIN_FILENO, &mut book);
+fn main(rt: HostRuntime) -> io::Result<()> {
+    let mut book = [0u8; INPUT];
+    let n = fill(&mut rt.stdin(), &mut book)?;
     let mut out = [0u8; forms::BOOK];
     let copy = forms::to_old(&book[..n], &mut out);
     let place = copy.place;
     if copy.number != 0 {
-        print_refusal(copy.number, place);
-        return;
+        return print_refusal(&rt, copy.number, place);
     }
-    io::write_all(STDOUT_FILENO, &out[..place]);
+    rt.write_all(&out[..place])
 }

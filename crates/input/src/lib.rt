@@ -1,0 +1,48 @@
+// What the programs read from their input: bytes into a slice, and lengths of four bytes.
+#![tactic(auto)]
+
+ghost use Rattle.std.specs.Prelude.{◌≡◌, ◌<◌, ◌≤◌, ◌^◌, length, take, IfOk, IfSome};
+ghost use Rattle.std.specs.Io.{ReadsAtMost};
+ghost use Rattle.std.specs.Io.KnownBytes.{Consumes, IsAtEnd};
+ghost use Rattle.input.specs.Number.{low_first};
+
+use std::io;
+use std::io::Read;
+
+// Reads until the slice is full or the input ends, and answers how many bytes it put at the slice's start: all that it
+// took of the input. A read that fails ends it with its error.
+pub fn fill<R: Read>(reader: &mut R, into: &mut [u8]) -> io::Result<usize>
+    ensures bound { ReadsAtMost result into.new }
+    ensures len { length into.new ≡ length into.old }
+    ensures bytes { IfOk result (λ n. Consumes
+        (R.remaining reader.old)
+        (R.remaining reader.new)
+        (take n into.new)) }
+    ensures end { IfOk result (λ n. n < length into.new → IsAtEnd (R.remaining reader.new)) }
+{
+    let mut done: usize = 0;
+    while done < into.len() {
+        let n = reader.read(&mut into[done..])?;
+        if n == 0 {
+            return Ok(done);
+        }
+        done += n;
+    }
+    Ok(done)
+}
+
+// A byte as a wide number.
+pub fn wide(x: u8) -> usize
+    ensures value { result ≡ x }
+    ensures small { result < 256 }
+{
+    x as usize
+}
+
+// The number in four bytes, the low one first.
+pub fn size(s: &[u8; 4]) -> usize
+    ensures value { result ≡ low_first s.now }
+    ensures small { result < 2 ^ 32 }
+{
+    wide(s[0]) + 256 * (wide(s[1]) + 256 * (wide(s[2]) + 256 * wide(s[3])))
+}
