@@ -1,11 +1,9 @@
 -- `library::lend` meets its contract. The loop's invariant: the bytes passed are copied to the front of the room. The
 -- measure is the number of bytes left.
-use borrow.Author.Rules.{rules}
 use native.Mathlib.Omega.{arith}
 use native.Mathlib.Nat.{zero-add}
 use mathlib.Core.Path.{◌≡◌, refl, ap, ◌∙◌}
-use Prim.Native.Nat.{◌-◌, ◌≤◌}
-use lib.ListN.{length, set, length-set, get_or}
+use lib.ListN.{set, length-set, get_or}
 use lib.Seq.{paste, paste-zero}
 use Rattle.covering.proofs.Slices.{paste_more}
 use Rattle.library.proofs.Lending.{lesser_in, lent_is}

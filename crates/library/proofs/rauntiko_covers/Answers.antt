@@ -1,5 +1,4 @@
 -- `library::rauntiko_covers` meets its contract: the desk's answer, its map lent.
-use borrow.Author.Rules.{rules}
 use mathlib.Core.Path.{ap, ◌∙◌}
 use Rattle.library.specs.Lent.{lent}
 use Rattle.library.proofs.rauntiko_covers.Goals as goal

@@ -1,5 +1,4 @@
 -- `library::rauntiko_kept` meets its contract: which record the desk keeps, its map lent.
-use borrow.Author.Rules.{rules}
 use mathlib.Core.Path.{ap, ◌∙◌}
 use Rattle.library.specs.Lent.{lent}
 use Rattle.library.proofs.rauntiko_kept.Goals as goal
