@@ -14,20 +14,31 @@ fn give_up(what: &str) -> ! {
     std::process::exit(1)
 }
 
-/// Has the script make the archive for this machine; its path.
+/// Has the script make the archive for the machine that is built for; its path.
 fn made(root: &Path) -> PathBuf {
-    if env::var("HOST") != env::var("TARGET") {
-        give_up(&format!(
-            "the kit's archive is for this machine alone; for another name a ready one in {READY}"
-        ));
-    }
     let script = root.join("rust/archive");
-    let ended = Command::new(&script).stderr(Stdio::inherit()).output();
+    let target = env::var_os("TARGET").unwrap();
+    let mut archive = Command::new(&script);
+    let ended = archive.arg(target).stderr(Stdio::inherit()).output();
     let ended = ended.unwrap_or_else(|e| give_up(&format!("{}: {e}", script.display())));
     if !ended.status.success() {
-        give_up("no archive of the proved routines: above stands what `rust/archive` says");
+        give_up(&format!(
+            "no archive of the proved routines: above stands what `rust/archive` says; {READY} \
+             takes the path of a ready one"
+        ));
     }
     PathBuf::from(String::from_utf8_lossy(&ended.stdout).trim())
+}
+
+/// What the archive is made from: what the kit reads of each crate, without what it writes beside.
+fn sources(root: &Path) -> Vec<PathBuf> {
+    let mut found = vec![root.join("crates.txt"), root.join("rust/archive")];
+    let crates = std::fs::read_dir(root.join("crates")).unwrap();
+    for entry in crates.flatten() {
+        let parts = ["src", "specs", "proofs"].map(|part| entry.path().join(part));
+        found.extend(parts.into_iter().filter(|part| part.is_dir()));
+    }
+    found
 }
 
 /// The archive that is named or made, put under a name of its own where the linker looks.
@@ -35,8 +46,8 @@ fn main() {
     let root = PathBuf::from(env::var_os("CARGO_MANIFEST_DIR").unwrap()).join("..");
     let out = PathBuf::from(env::var_os("OUT_DIR").unwrap());
     println!("cargo:rerun-if-env-changed={READY}");
-    for name in ["crates", "crates.txt", "rust/archive"] {
-        println!("cargo:rerun-if-changed={}", root.join(name).display());
+    for path in sources(&root) {
+        println!("cargo:rerun-if-changed={}", path.display());
     }
     let archive = match env::var_os(READY) {
         None => made(&root),
