@@ -4,7 +4,7 @@ ghost use Rattle.std.proofs.Math.Option.{none};
 ghost use Rattle.reading.specs.Header.{constants, atom_places, atom_size};
 ghost use Rattle.reading.specs.Book.{rule_end};
 ghost use Rattle.reading.specs.Refusals.{place_allowed};
-ghost use Rattle.reading.specs.Verdict.{told, contents as contentsOf, wrong_places, rule_right, wrong_rule, wrong_place};
+ghost use Rattle.reading.specs.Verdict.{told, contents as contents_of, wrong_places, rule_right, wrong_rule, wrong_place};
 ghost use Rattle.reading.specs.Verdict.{wrong_in_atom, wrong_in_atoms, wrong_in_rules, wrong_in_question, wrong_byte};
 ghost use Rattle.reading.specs.Verdict.{loose_variable};
 ghost use Rattle.judging.specs.Judged.{HeaderRight, RulesRight, wrong_record};
@@ -261,7 +261,7 @@ fn loose_variable(book: &[u8], h: Header) -> Refusal
 // What is wrong after the header of a book whose header is right: refusals 5, 6, 7 and 11, in this order.
 pub fn contents(book: &[u8], h: Header) -> Refusal
     requires { HeaderRight book.now h }
-    ensures { result ≡ contentsOf book.now }
+    ensures { result ≡ contents_of book.now }
 {
     let five = wrong_places(book, h.table, h.relations, h.places);
     if five.number != 0 {

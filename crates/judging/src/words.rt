@@ -1,7 +1,7 @@
 // Sizes, bytes, words and ranges.
 ghost use Rattle.std.specs.Prelude.{◌≡◌, ◌+◌, ◌*◌, ◌<◌, ◌≤◌, length};
 ghost use Rattle.reading.specs.Word.{word as word_at};
-ghost use Rattle.reading.specs.Header.{in_bounds as isWithin};
+ghost use Rattle.reading.specs.Header.{in_bounds as is_within};
 
 // The bytes of an old book's header, and of a new one's.
 pub const OLD_HEADER: usize = 18;
@@ -56,7 +56,7 @@ pub fn variables(w: usize) -> usize
 
 // Whether n is least to most.
 pub fn within(n: usize, least: usize, most: usize) -> bool
-    ensures { result ≡ isWithin least most n }
+    ensures { result ≡ is_within least most n }
 {
     if n < least {
         return false;

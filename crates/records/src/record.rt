@@ -1,12 +1,12 @@
 // Whether bytes are a member record whose atoms have w places.
 ghost use Rattle.std.specs.Prelude.{◌≡◌, true, cond, ◌+◌, ◌*◌, ◌-◌, ◌≤◌, T, length};
-ghost use Rattle.covering.specs.Record.{width as width_of, desk, stored, desk_variables, is_width as isWidthOf};
+ghost use Rattle.covering.specs.Record.{width as width_of, desk, stored, desk_variables, is_width as is_width_of};
 ghost use Rattle.covering.specs.Record.{is_term, unused, used_first, are_places, are_answer_places, is_atom, are_atoms};
 ghost use Rattle.covering.specs.Record.{has_answer, answers as answers_of, is_record, is_desk_record};
 
 // Whether atoms have so many places at all: four, or six.
 fn is_width(w: usize) -> bool
-    ensures { result ≡ isWidthOf w }
+    ensures { result ≡ is_width_of w }
 {
     if w == 4 {
         return true;
@@ -115,7 +115,7 @@ pub fn width(count: u8) -> usize
 
 // The same where an atom has w places.
 fn width_of(count: u8, w: usize) -> usize
-    requires { T (isWidthOf w) }
+    requires { T (is_width_of w) }
     ensures { result ≡ width_of (desk w) count }
 {
     if w == 4 {
@@ -139,7 +139,7 @@ pub fn answers(s: &[u8]) -> u8
 
 // Whether the answer record, where there is one, has its places right: at most four, whatever an atom has.
 fn answer_right(s: &[u8], a: u8, w: usize) -> bool
-    requires { (a ≡ answers_of s.now) × T (isWidthOf w) × (1 + a * (1 + w) ≤ length s.now) }
+    requires { (a ≡ answers_of s.now) × T (is_width_of w) × (1 + a * (1 + w) ≤ length s.now) }
     ensures { result ≡ cond (has_answer s.now) (are_answer_places (desk w) s.now 2) true }
 {
     if a == 0 {
@@ -154,7 +154,7 @@ fn answer_right(s: &[u8], a: u8, w: usize) -> bool
 // Whether s is a record whose atoms have w places, w one of the two widths: 0 to 11 atoms after its answer record, if
 // any, and a length that fits exactly.
 fn is_record_of(s: &[u8], w: usize) -> bool
-    requires { T (isWidthOf w) }
+    requires { T (is_width_of w) }
     ensures { result ≡ is_record (desk w) s.now }
 {
     if s.len() == 0 {
