@@ -1,1 +1,3 @@
+-- What a slice is filled with, and a number in bytes.
+pub mod Filled
 pub mod Number

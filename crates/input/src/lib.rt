@@ -1,24 +1,24 @@
 // What the programs read from their input: bytes into a slice, and lengths of four bytes.
 #![tactic(auto)]
 
-ghost use Rattle.std.specs.Prelude.{◌≡◌, ◌<◌, ◌≤◌, ◌^◌, length, take, IfOk, IfSome};
+ghost use Rattle.std.specs.Prelude.{◌≡◌, ◌<◌, ◌^◌, length, take, IfOk};
 ghost use Rattle.std.specs.Io.{ReadsAtMost};
-ghost use Rattle.std.specs.Io.KnownBytes.{Consumes, IsAtEnd};
+ghost use Rattle.input.specs.Filled.{Fills};
 ghost use Rattle.input.specs.Number.{low_first};
 
 use std::io;
 use std::io::Read;
 
-// Reads until the slice is full or the input ends, and answers how many bytes it put at the slice's start: all that it
-// took of the input. A read that fails ends it with its error.
+// Reads until the slice is full or the input ends, and answers how many bytes it put at the slice's start: the front of
+// what the reader has, as much as fits. A read that fails ends it with its error.
 pub fn fill<R: Read>(reader: &mut R, into: &mut [u8]) -> io::Result<usize>
     ensures bound { ReadsAtMost result into.new }
     ensures len { length into.new ≡ length into.old }
-    ensures bytes { IfOk result (λ n. Consumes
+    ensures bytes { IfOk result (λ n. Fills
+        (length into.new)
         (R.remaining reader.old)
         (R.remaining reader.new)
         (take n into.new)) }
-    ensures end { IfOk result (λ n. n < length into.new → IsAtEnd (R.remaining reader.new)) }
 {
     let mut done: usize = 0;
     while done < into.len() {
