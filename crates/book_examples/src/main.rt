@@ -11,7 +11,7 @@ use books::{asked, bare, sample, small};
 use covering::RECORD;
 use forms::{BOOK, to_new};
 use std::io;
-use std::io::{BufWriter, Write};
+use std::io::Write;
 
 // The verdict on a book.
 fn tell<W: Write>(out: &mut W, name: &[u8], book: &[u8]) -> io::Result<()> {
@@ -252,7 +252,7 @@ fn more_answers<W: Write>(out: &mut W) -> io::Result<()> {
 }
 
 fn main(rt: HostRuntime) -> io::Result<()> {
-    let mut out = BufWriter::new(rt.alloc(), rt.stdout())?;
+    let mut out = rt.stdout();
     sound(&mut out)?;
     twos(&mut out)?;
     threes(&mut out)?;

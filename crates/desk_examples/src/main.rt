@@ -6,10 +6,10 @@ mod limits;
 mod refusals;
 
 use std::io;
-use std::io::{BufWriter, Write};
+use std::io::Write;
 
 fn main(rt: HostRuntime) -> io::Result<()> {
-    let mut out = BufWriter::new(rt.alloc(), rt.stdout())?;
+    let mut out = rt.stdout();
     directions(&mut out)?;
     shared(&mut out)?;
     refusals::counts(&mut out)?;

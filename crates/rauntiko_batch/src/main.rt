@@ -7,7 +7,7 @@ ghost use Rattle.std.specs.Prelude.{◌≡◌, min};
 
 use input::{fill, size};
 use std::io;
-use std::io::{BufReader, BufWriter, Read, Write};
+use std::io::{Read, Write};
 
 // The most bytes of a book that are looked at.
 const INPUT: usize = 65536;
@@ -50,8 +50,8 @@ fn answer_next<R: Read, W: Write>(reader: &mut R, out: &mut W) -> io::Result<boo
 // A proved loop has to end, and nothing says that the input does: the turns are counted, up to a number that no run
 // comes to.
 fn main(rt: HostRuntime) -> io::Result<()> {
-    let mut reader = BufReader::new(rt.alloc(), rt.stdin())?;
-    let mut out = BufWriter::new(rt.alloc(), rt.stdout())?;
+    let mut reader = rt.stdin();
+    let mut out = rt.stdout();
     for _ in 0..u64::MAX {
         if !answer_next(&mut reader, &mut out)? {
             break;

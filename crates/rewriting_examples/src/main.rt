@@ -12,7 +12,7 @@ use book::Parts;
 use covering::RECORD;
 use forms::{BOOK, to_new};
 use std::io;
-use std::io::{BufWriter, Write};
+use std::io::Write;
 
 // No choice has a number as large: five digits' values for each of eight atoms.
 const MOST: usize = 390625;
@@ -163,7 +163,7 @@ fn tell_new<W: Write>(out: &mut W, book: &[u8]) -> io::Result<()>
 }
 
 fn main(rt: HostRuntime) -> io::Result<()> {
-    let mut out = BufWriter::new(rt.alloc(), rt.stdout())?;
+    let mut out = rt.stdout();
     tell(&mut out, b"example 4", &example4())?;
     tell(&mut out, b"example 5", &example5())?;
     tell(&mut out, b"example 6", &example6())?;
