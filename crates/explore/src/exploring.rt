@@ -79,7 +79,8 @@ pub fn explore(
                 patience = resumed.patience;
             }
             Fate::Appended(next) => {
-                if cover::covers_sound(&room, member) {
+                let stops = cover::covers_sound(&room, member);
+                if stops {
                     return Explored::Passed(next);
                 }
                 held = next;

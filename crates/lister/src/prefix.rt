@@ -83,7 +83,8 @@ fn leave_unmet(question: &[u8], book: &[u8], rule: Parts, p: usize, left: &mut [
     let mut j = p;
     while j < n {
         let at = 1 + j * 7;
-        if is_unmet(book, rule, question[at]) {
+        let unmet = is_unmet(book, rule, question[at]);
+        if unmet {
             put_atom(left, question, at);
         }
         j += 1;

@@ -222,20 +222,20 @@ loop-room-preserved-in-Dropped c = (
   dropped_sets c.before.before.before.before,
 )
 
-pub covers_sound-requires : goal.covers_sound-requires
-covers_sound-requires c = (
+pub covers_sound-stops-requires : goal.covers_sound-stops-requires
+covers_sound-stops-requires c = (
   sound c.before.before.before.before.before.before.before.before.before.before.before,
   subst (SoundRecord stored) (sym c.requires.3.holds) (member_sound c.args.book.now c.requires.0 _ c.requires.3.fits),
 )
 
-pub shape_of-work-then-covers_sound : goal.shape_of-work-then-covers_sound
-shape_of-work-then-covers_sound c =
+pub shape_of-work-then-stops : goal.shape_of-work-then-stops
+shape_of-work-then-stops c =
     (appended c.before.before.before.before.before).1.held.size ∙ sym c.requires.4.held.size
 
-pub returns-then-covers_sound : goal.returns-then-covers_sound
-returns-then-covers_sound c = (
+pub returns-then-stops : goal.returns-then-stops
+returns-then-stops c = (
   onward_stopped _ _ _ _ _ c.loop-room.invariant.0 (given c.before.before.before.before.before.before.before.before.before.before.before.before.before) _ _ (appended c.before.before.before.before.before)
-      (covers_is c.before.before.before.before.before.before.before.before.before.before.before.before.before _ c.covers_sound.ensures ∙ c.if-covers_sound.true),
+      (covers_is c.before.before.before.before.before.before.before.before.before.before.before.before.before _ c.covers_sound-stops.ensures ∙ c.if-stops.true),
   appended_sets c.before.before.before.before.before,
 )
 
@@ -246,7 +246,7 @@ loop-room-smaller c =
 pub loop-room-preserved : goal.loop-room-preserved
 loop-room-preserved c = (
   onward_appended _ _ _ _ _ c.loop-room.invariant.0 (given c.before.before.before.before.before.before.before.before.before.before.before.before.before) _ _ (appended c.before.before.before.before.before)
-      (covers_is c.before.before.before.before.before.before.before.before.before.before.before.before.before _ c.covers_sound.ensures ∙ c.if-covers_sound.false),
+      (covers_is c.before.before.before.before.before.before.before.before.before.before.before.before.before _ c.covers_sound-stops.ensures ∙ c.if-stops.false),
   appended_sets c.before.before.before.before.before,
 )
 

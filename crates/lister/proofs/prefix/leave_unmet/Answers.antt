@@ -6,7 +6,7 @@ use lib.ListN.{length}
 use Rattle.lister.proofs.LeftAtoms.{left_room}
 use Rattle.lister.proofs.Unmet.{atom_in, Leaving, leaving_more, leaving_same, leaving_done}
 use Rattle.lister.proofs.prefix.leave_unmet.Goals as goal
-use Rattle.lister.proofs.prefix.leave_unmet.Goals.{then-is_unmet, else-is_unmet}
+use Rattle.lister.proofs.prefix.leave_unmet.Goals.{then-unmet, else-unmet}
 
 pub bounds-question-0 : goal.bounds-question-0
 bounds-question-0 c = omega (arith, c.requires.0.atoms.fits)
@@ -26,8 +26,8 @@ overflow_add-at c = omega (arith, c.requires.0.few, c.loop-j-test.true)
 pub bounds-question-at : goal.bounds-question-at
 bounds-question-at c = omega (arith, c.requires.0.atoms.fits, c.loop-j-test.true)
 
-pub is_unmet-requires : goal.is_unmet-requires
-is_unmet-requires c = c.requires.1.head.fits
+pub is_unmet-unmet-requires : goal.is_unmet-unmet-requires
+is_unmet-unmet-requires c = c.requires.1.head.fits
 
 pub put_atom-requires : goal.put_atom-requires
 put_atom-requires c = (
@@ -40,18 +40,18 @@ overflow_add-j c = omega (arith, c.requires.0.few, c.loop-j-test.true)
 
 pub loop-j-preserved : goal.loop-j-preserved
 loop-j-preserved c =
-    let u = c.is_unmet.ensures in
+    let u = c.is_unmet-unmet.ensures in
     let l = c.loop-j.invariant.1 in
-    elim c.if-is_unmet.branch [
-      | then-is_unmet w ↦ (
+    elim c.if-unmet.branch [
+      | then-unmet w ↦ (
         ap length w.left-is ∙ w.put_atom.auto.kept ∙ c.loop-j.invariant.0,
         subst (Leaving _ _ _ _) (sym w.left-is)
-            (leaving_more c.requires.0 l c.loop-j-test.true (sym u ∙ w.if-is_unmet.true) w.put_atom.ensures),
+            (leaving_more c.requires.0 l c.loop-j-test.true (sym u ∙ w.if-unmet.true) w.put_atom.ensures),
       )
-      | else-is_unmet w ↦ (
+      | else-unmet w ↦ (
         ap length w.left-is ∙ c.loop-j.invariant.0,
         subst (Leaving _ _ _ _) (sym w.left-is)
-            (leaving_same c.requires.0 l c.loop-j-test.true (sym u ∙ w.if-is_unmet.false)),
+            (leaving_same c.requires.0 l c.loop-j-test.true (sym u ∙ w.if-unmet.false)),
       )
     ]
 
