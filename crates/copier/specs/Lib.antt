@@ -1,0 +1,2 @@
+-- What is written of a copy.
+pub mod Told
