@@ -3,7 +3,9 @@
 // all there is left out.
 #![tactic(auto)]
 
-ghost use Rattle.std.specs.Prelude.{◌≡◌, min};
+ghost use Rattle.std.specs.Prelude.{◌≡◌, ◌<◌, ◌≤◌, ◌^◌, List, ℕ, length, min, IfOk, OnOk, IfSome};
+ghost use Rattle.std.specs.Io.KnownBytes.{Appends};
+ghost use Rattle.rauntiko_batch.specs.Batch.{Skips, ReadsFirst, AnswersFirst, Answered};
 
 use input::{fill, size};
 use std::io;
@@ -19,26 +21,68 @@ fn least(a: usize, b: usize) -> usize
 }
 
 // Reads so many bytes for nothing, and answers whether they were there.
-fn skip<R: Read>(reader: &mut R, n: usize) -> io::Result<bool> {
-    let skipped = io::copy(&mut reader.take(n as u64), &mut io::sink())?;
-    Ok(skipped == n as u64)
+fn skip<R: Read>(reader: &mut R, n: usize) -> io::Result<bool>
+    ensures { IfOk result (λ there. Skips
+        n
+        (R.remaining reader.old)
+        (R.remaining reader.new)
+        there) }
+{
+    let mut left = n;
+    while 0 < left {
+        let step = least(left, 4096);
+        let mut bytes = [0u8; 4096];
+        let got = fill(reader, &mut bytes[..step])?;
+        if got < step {
+            return Ok(false);
+        }
+        left -= step;
+    }
+    Ok(true)
 }
 
-// Answers the next book, and whether there was one. Its answer is on its way before the next book is waited for.
-fn answer_next<R: Read, W: Write>(reader: &mut R, out: &mut W) -> io::Result<bool> {
+// Reads the next book, as much of it as is looked at, to the front of the buffer, and answers how much that is; none
+// where the book is not all there.
+fn read_book<R: Read>(reader: &mut R, book: &mut [u8; INPUT]) -> io::Result<Option<usize>>
+    ensures bound { IfOk result (λ read. IfSome read (λ n. n ≤ 65536)) }
+    ensures bytes { IfOk result (λ read. ReadsFirst
+        (R.remaining reader.old)
+        (R.remaining reader.new)
+        book.new
+        read) }
+{
     let mut head = [0u8; 4];
-    if fill(reader, &mut head)? < 4 {
-        return Ok(false);
+    let told = fill(reader, &mut head)?;
+    if told < 4 {
+        return Ok(None);
     }
     let length = size(&head);
     let kept = least(length, INPUT);
+    let got = fill(reader, &mut book[..kept])?;
+    if got < kept {
+        return Ok(None);
+    }
+    let skipped = skip(reader, length - kept)?;
+    if !skipped {
+        return Ok(None);
+    }
+    Ok(Some(kept))
+}
+
+// Answers the next book, and whether there was one. Its answer is on its way before the next book is waited for.
+fn answer_next<R: Read, W: Write>(reader: &mut R, out: &mut W) -> io::Result<bool>
+    ensures { IfOk result (λ there. AnswersFirst
+        (R.remaining reader.old)
+        (R.remaining reader.new)
+        (W.contents out.old)
+        (W.contents out.new)
+        there) }
+{
     let mut book = [0u8; INPUT];
-    if fill(reader, &mut book[..kept])? < kept {
+    let read = read_book(reader, &mut book)?;
+    let Some(kept) = read else {
         return Ok(false);
-    }
-    if !skip(reader, length - kept)? {
-        return Ok(false);
-    }
+    };
     let mut text = [0u8; printing::TEXT];
     let end = printing::answer(&book[..kept], &mut text);
     out.write_all(&text[..end])?;
@@ -47,15 +91,21 @@ fn answer_next<R: Read, W: Write>(reader: &mut R, out: &mut W) -> io::Result<boo
     Ok(true)
 }
 
-// A proved loop has to end, and nothing says that the input does: the turns are counted, up to a number that no run
-// comes to.
-fn main(rt: HostRuntime) -> io::Result<()> {
-    let mut reader = rt.stdin();
-    let mut out = rt.stdout();
-    for _ in 0..u64::MAX {
-        if !answer_next(&mut reader, &mut out)? {
-            break;
+// Answers each book that the reader gives: where its bytes are known, and there are fewer than 2 ^ 64, so are those
+// written. A proved loop has to end, and nothing says that the input does: the turns are counted, up to a number that
+// no run comes to.
+fn answer_all<R: Read, W: Write>(reader: &mut R, out: &mut W) -> io::Result<()>
+    ensures { OnOk result (IfSome (R.remaining reader.old) (λ xs. length xs < 2 ^ 64 →
+        (ys : List ℕ) × Answered xs ys × Appends (W.contents out.old) (W.contents out.new) ys)) }
+{
+    for turn in 0..u64::MAX {
+        if !answer_next(reader, out)? {
+            return Ok(());
         }
     }
     Ok(())
+}
+
+fn main(rt: HostRuntime) -> io::Result<()> {
+    answer_all(&mut rt.stdin(), &mut rt.stdout())
 }

@@ -1,0 +1,2 @@
+-- Books one after the other, and what is written for them.
+pub mod Batch
