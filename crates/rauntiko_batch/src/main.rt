@@ -41,8 +41,8 @@ fn skip<R: Read>(reader: &mut R, n: usize) -> io::Result<bool>
     Ok(true)
 }
 
-// Reads the next book, as much of it as is looked at, to the front of the buffer, and answers how much that is; none
-// where the book is not all there.
+// Reads the next book, as much of it as is looked at, to the front of the buffer, skips the rest of it, and answers how
+// much is looked at; none where the book is not all there.
 fn read_book<R: Read>(reader: &mut R, book: &mut [u8; INPUT]) -> io::Result<Option<usize>>
     ensures bound { IfOk result (λ read. IfSome read (λ n. n ≤ 65536)) }
     ensures bytes { IfOk result (λ read. ReadsFirst
