@@ -50,10 +50,12 @@ abbrev After-admit : Type 0
 After-admit = lts.After-admit tie.the-claims reads.Pre reads.Post goal.the-invariant-loop-room goal.the-decreases-loop-room
 
 abbrev Past-After-known_told : Type 0
-Past-After-known_told = lts.Past-After-known_told tie.the-claims reads.Pre reads.Post goal.the-invariant-loop-room goal.the-decreases-loop-room
+Past-After-known_told = lts.Past-After-known_told tie.the-claims reads.Pre reads.Post goal.the-invariant-loop-room
+    goal.the-decreases-loop-room
 
 abbrev Past-After-enum_told : Type 0
-Past-After-enum_told = lts.Past-After-enum_told tie.the-claims reads.Pre reads.Post goal.the-invariant-loop-room goal.the-decreases-loop-room
+Past-After-enum_told = lts.Past-After-enum_told tie.the-claims reads.Pre reads.Post goal.the-invariant-loop-room
+    goal.the-decreases-loop-room
 
 abbrev rules_of_here : At-loop → List Rule
 rules_of_here c = (book_of c.args.book.now).rules
@@ -70,7 +72,9 @@ given : (c : Else1)
     c.next_rewriting-taken.result (record_of c)
 given c = given_some _ _ _ _ _ _ _ c.next_rewriting-taken.ensures.0 (not_false _ c.if-not-taken.false)
 
-listed : (c : Else1) → (given c).rewriting ∈ all_rewritings (rules_of_here c.before.before.before.before) (member_of c.before.before.before.before)
+listed : (c : Else1)
+    → (given c).rewriting
+    ∈ all_rewritings (rules_of_here c.before.before.before.before) (member_of c.before.before.before.before)
 listed c = rewriting_in _ _ _ _ _ c.loop-room.invariant.0 (given c)
 
 -- its record is sound, and its question is the rewriting
@@ -91,7 +95,8 @@ covers_is c b h = ap (λ (Q : Question). covers Q (member_of c.before.before.bef
 -- what became of it, and where it was appended
 abbrev Became : After-admit → Fate → Type 0
 Became c r =
-    FateIs (limits_of c.args.book.now) c.loop-room.work c.loop-room.held (given c.before.before.before.before.before).rewriting c.admit-fate.new.work r
+    FateIs (limits_of c.args.book.now) c.loop-room.work c.loop-room.held
+        (given c.before.before.before.before.before).rewriting c.admit-fate.new.work r
 
 fate : (c : After-admit) → Became c c.admit-fate.result
 fate c =
@@ -145,11 +150,13 @@ dropped_sets c =
     subst (After c.before.before.before) c.in-Dropped.is c.admit-fate.ensures.1
 
 onward : (c : Past-After-enum_told)
-    → Onward (limits_of c.args.book.now) (rules_of_here c.before.before.before.before.before.before.before.before.before.before.before.before) (member_of c.before.before.before.before.before.before.before.before.before.before.before.before) c.args.work.now c.args.filled
+    → let back_12 = c.before.before.before.before.before.before.before.before.before.before.before.before in
+    Onward (limits_of c.args.book.now) (rules_of_here back_12) (member_of back_12) c.args.work.now c.args.filled
     c.admit-fate.new.work c.loop-room.held c.next_rewriting-taken.result.rule
     (c.next_rewriting-taken.result.choice + 1)
 onward c =
-    onward_dropped _ _ _ _ _ c.loop-room.invariant.0 (given c.before.before.before.before.before.before.before.before) c.admit-fate.new.work (dropped c)
+    let back_8 = c.before.before.before.before.before.before.before.before in
+    onward_dropped _ _ _ _ _ c.loop-room.invariant.0 (given back_8) c.admit-fate.new.work (dropped c)
 
 pub loop-room-init : goal.loop-room-init
 loop-room-init c = (
@@ -192,6 +199,7 @@ admit-fate-requires c = (
 
 pub after_drop-resumed-requires : goal.after_drop-resumed-requires
 after_drop-resumed-requires c =
+    let back_10 = c.before.before.before.before.before.before.before.before.before.before in
     let M = c.requires.3 in (
       c.requires.0,
       c.requires.6,
@@ -199,27 +207,31 @@ after_drop-resumed-requires c =
       subst QuestionIn (sym M.holds) (member_in c.args.book.now c.requires.0 c.requires.6 _ M.fits),
       (onward c.before.before).working.few,
       stands_all (onward c.before.before).working,
-      (own_rule c.before.before.before.before.before.before.before.before.before.before).0,
+      (own_rule back_10).0,
       subst
           (λ (r : Rule).
           c.next_rewriting-taken.result.choice < count (length r.head) (get_or c.args.member.now 0 0))
-          (own_rule c.before.before.before.before.before.before.before.before.before.before).1 (own_choice c.before.before.before.before.before.before.before.before.before.before),
+          (own_rule back_10).1 (own_choice back_10),
       dropped_sets c.before.before,
     )
 
 pub loop-room-smaller-in-Dropped : goal.loop-room-smaller-in-Dropped
 loop-room-smaller-in-Dropped c =
-    fewer_passed _ _ _ _ _ c.loop-room.invariant.0 (given c.before.before.before.before.before.before.before.before.before.before.before.before) c.after_drop-resumed.ensures.later
+    let back_12 = c.before.before.before.before.before.before.before.before.before.before.before.before in
+    fewer_passed _ _ _ _ _ c.loop-room.invariant.0 (given back_12) c.after_drop-resumed.ensures.later
 
 pub loop-room-preserved-in-Dropped : goal.loop-room-preserved-in-Dropped
-loop-room-preserved-in-Dropped c = (
-  onward_passed _ _ _ _ _ c.loop-room.invariant.0 (given c.before.before.before.before.before.before.before.before.before.before.before.before) (onward c.before.before.before.before)
+loop-room-preserved-in-Dropped c =
+    let back_4 = c.before.before.before.before in
+    let back_12 = back_4.before.before.before.before.before.before.before.before in
+    let back_16 = back_12.before.before.before.before in (
+  onward_passed _ _ _ _ _ c.loop-room.invariant.0 (given back_12) (onward back_4)
       (subst
       (λ (r : Rule).
-      GoesOn r (member_of c.before.before.before.before.before.before.before.before.before.before.before.before.before.before.before.before) (held_from c.admit-fate.new.work first_at c.loop-room.held.count)
+      GoesOn r (member_of back_16) (held_from c.admit-fate.new.work first_at c.loop-room.held.count)
       c.next_rewriting-taken.result.choice c.after_drop-resumed.result.from)
-      (sym (own_rule c.before.before.before.before.before.before.before.before.before.before.before.before).1) c.after_drop-resumed.ensures),
-  dropped_sets c.before.before.before.before,
+      (sym (own_rule back_12).1) c.after_drop-resumed.ensures),
+  dropped_sets back_4,
 )
 
 pub covers_sound-stops-requires : goal.covers_sound-stops-requires
@@ -233,21 +245,26 @@ shape_of-work-then-stops c =
     (appended c.before.before.before.before.before).1.held.size ∙ sym c.requires.4.held.size
 
 pub returns-then-stops : goal.returns-then-stops
-returns-then-stops c = (
-  onward_stopped _ _ _ _ _ c.loop-room.invariant.0 (given c.before.before.before.before.before.before.before.before.before.before.before.before.before) _ _ (appended c.before.before.before.before.before)
-      (covers_is c.before.before.before.before.before.before.before.before.before.before.before.before.before _ c.covers_sound-stops.ensures ∙ c.if-stops.true),
-  appended_sets c.before.before.before.before.before,
+returns-then-stops c =
+    let back_5 = c.before.before.before.before.before in
+    let back_13 = back_5.before.before.before.before.before.before.before.before in (
+  onward_stopped _ _ _ _ _ c.loop-room.invariant.0 (given back_13) _ _ (appended back_5)
+      (covers_is back_13 _ c.covers_sound-stops.ensures ∙ c.if-stops.true),
+  appended_sets back_5,
 )
 
 pub loop-room-smaller : goal.loop-room-smaller
 loop-room-smaller c =
-    fewer _ _ _ _ _ c.loop-room.invariant.0 (given c.before.before.before.before.before.before.before.before.before.before.before.before.before)
+    let back_13 = c.before.before.before.before.before.before.before.before.before.before.before.before.before in
+    fewer _ _ _ _ _ c.loop-room.invariant.0 (given back_13)
 
 pub loop-room-preserved : goal.loop-room-preserved
-loop-room-preserved c = (
-  onward_appended _ _ _ _ _ c.loop-room.invariant.0 (given c.before.before.before.before.before.before.before.before.before.before.before.before.before) _ _ (appended c.before.before.before.before.before)
-      (covers_is c.before.before.before.before.before.before.before.before.before.before.before.before.before _ c.covers_sound-stops.ensures ∙ c.if-stops.false),
-  appended_sets c.before.before.before.before.before,
+loop-room-preserved c =
+    let back_5 = c.before.before.before.before.before in
+    let back_13 = back_5.before.before.before.before.before.before.before.before in (
+  onward_appended _ _ _ _ _ c.loop-room.invariant.0 (given back_13) _ _ (appended back_5)
+      (covers_is back_13 _ c.covers_sound-stops.ensures ∙ c.if-stops.false),
+  appended_sets back_5,
 )
 
 pub shape_of-work-in-Refused : goal.shape_of-work-in-Refused
@@ -255,8 +272,10 @@ shape_of-work-in-Refused c =
     c.admit-fate.auto.work ∙ c.loop-room.invariant.0.working.held.size ∙ sym c.requires.4.held.size
 
 pub returns-in-Refused : goal.returns-in-Refused
-returns-in-Refused c = (
-  onward_refused _ _ _ _ _ c.loop-room.invariant.0 (given c.before.before.before.before.before.before.before.before.before) _
-      (subst (Became c.before.before.before.before) c.in-Refused.is (fate c.before.before.before.before)),
+returns-in-Refused c =
+    let back_4 = c.before.before.before.before in
+    let back_9 = back_4.before.before.before.before.before in (
+  onward_refused _ _ _ _ _ c.loop-room.invariant.0 (given back_9) _
+      (subst (Became back_4) c.in-Refused.is (fate back_4)),
   tt,
 )

@@ -59,20 +59,24 @@ returns-then-now-gt0 c = goes_next _ _ _ _
 
 pub offset_bounds-starts-rule : goal.offset_bounds-starts-rule
 offset_bounds-starts-rule c =
-    omega (arith, c.requires.6, rules_few (book c.before.before.before.before.before.before.before.before.before) c.requires.0)
+    let back_9 = c.before.before.before.before.before.before.before.before.before in
+    omega (arith, c.requires.6, rules_few (book back_9) c.requires.0)
 
 pub bounds-starts-rule : goal.bounds-starts-rule
 bounds-starts-rule c =
-    start_inside (book c.before.before.before.before.before.before.before.before.before.before) c.requires.0 c.args.starts.now c.requires.2 _ c.requires.6
+    let back_10 = c.before.before.before.before.before.before.before.before.before.before in
+    start_inside (book back_10) c.requires.0 c.args.starts.now c.requires.2 _ c.requires.6
 
 pub rule_at-requires : goal.rule_at-requires
 rule_at-requires c =
-    (start_fits (book c.before.before.before.before.before.before.before.before.before.before) c.requires.0 c.args.starts.now c.requires.2 _ c.requires.6, c.requires.1)
+    let back_10 = c.before.before.before.before.before.before.before.before.before.before in
+    (start_fits (book back_10) c.requires.0 c.args.starts.now c.requires.2 _ c.requires.6, c.requires.1)
 
 pub after_covered-from-requires : goal.after_covered-from-requires
 after_covered-from-requires c =
+    let back_11 = c.before.before.before.before.before.before.before.before.before.before.before in
     let e = c.rule_at.ensures in
-    (c.requires.3, in_book_lem c.before.before.before.before.before.before.before.before.before.before.before _ e, c.requires.4, c.requires.5, own_choice c.before.before.before.before.before.before.before.before.before.before.before _ e, c.requires.8)
+    (c.requires.3, in_book_lem back_11 _ e, c.requires.4, c.requires.5, own_choice back_11 _ e, c.requires.8)
 
 pub overflow_add-choice : goal.overflow_add-choice
 overflow_add-choice c =
@@ -80,8 +84,9 @@ overflow_add-choice c =
 
 pub returns : goal.returns
 returns c =
+    let back_13 = c.before.before.before.before.before.before.before.before.before.before.before.before.before in
     subst
     (λ (rule : Rule).
     GoesOn rule (question_of stored c.args.member.now) (held_from c.args.work.now first_at c.args.members)
     c.args.choice c.after_covered-from.result)
-    (own_rule c.before.before.before.before.before.before.before.before.before.before.before.before.before _ c.rule_at.ensures) c.after_covered-from.ensures
+    (own_rule back_13 _ c.rule_at.ensures) c.after_covered-from.ensures

@@ -50,15 +50,17 @@ start_of c =
 -- what was found for it
 found : (c : After-next_by)
     → FoundIs
-    (next apart (rule_at (book_of_here c.before.before.before.before.before) (rule_start (book_of_here c.before.before.before.before.before) c.loop-rule.rule))
+    (next apart
+        (rule_at (book_of_here c.before.before.before.before.before) (rule_start (book_of_here c.before.before.before.before.before) c.loop-rule.rule))
     (member_of c.before.before.before.before.before) c.loop-rule.choice)
     c.loop-rule.out c.next_by-found.result c.next_by-found.new.out
 found c =
+    let back_5 = c.before.before.before.before.before in
     subst
     (λ (s : ℕ).
-    FoundIs (next apart (rule_at (book_of_here c.before.before.before.before.before) s) (member_of c.before.before.before.before.before) c.loop-rule.choice) c.loop-rule.out
+    FoundIs (next apart (rule_at (book_of_here back_5) s) (member_of back_5) c.loop-rule.choice) c.loop-rule.out
     c.next_by-found.result c.next_by-found.new.out)
-    (start_of c.before.before.before.before.before) c.next_by-found.ensures.0
+    (start_of back_5) c.next_by-found.ensures.0
 
 pub relations-all-requires : goal.relations-all-requires
 relations-all-requires c = c.requires.6
@@ -93,34 +95,39 @@ offset_bounds-heads-rule-in-loop-rule c =
 
 pub bounds-heads-rule-in-loop-rule : goal.bounds-heads-rule-in-loop-rule
 bounds-heads-rule-in-loop-rule c =
-    omega (arith, within c.before.before.before.before, rules_few (book_of_here c.before.before.before.before) c.requires.0, c.requires.5.size)
+    let back_4 = c.before.before.before.before in
+    omega (arith, within back_4, rules_few (book_of_here back_4) c.requires.0, c.requires.5.size)
 
 pub next_by-found-requires : goal.next_by-found-requires
 next_by-found-requires c =
-    let B = book_of_here c.before.before.before.before.before in
+    let back_5 = c.before.before.before.before.before in
+    let B = book_of_here back_5 in
     let k = c.loop-rule.rule in
-    let at = sym (start_of c.before.before.before.before.before) in (
-      start_fits B c.requires.0 c.args.starts.now c.requires.2 _ (within c.before.before.before.before.before),
+    let at = sym (start_of back_5) in (
+      start_fits B c.requires.0 c.args.starts.now c.requires.2 _ (within back_5),
       c.requires.4,
-      parts_in B c.requires.0 c.args.starts.now c.requires.2 _ (within c.before.before.before.before.before) c.requires.4 _ refl,
+      parts_in B c.requires.0 c.args.starts.now c.requires.2 _ (within back_5) c.requires.4 _ refl,
       c.requires.3,
-      c.requires.5.heads k (within c.before.before.before.before.before) ∙ ap (λ (s : ℕ). relations_of (rule_at B s).head) at,
+      c.requires.5.heads k (within back_5) ∙ ap (λ (s : ℕ). relations_of (rule_at B s).head) at,
       c.relations-all.ensures,
-      c.requires.5.unknowns k (within c.before.before.before.before.before) ∙ ap (λ (s : ℕ). cond (has_unknowns (rule_at B s)) 1 0) at,
+      c.requires.5.unknowns k (within back_5) ∙ ap (λ (s : ℕ). cond (has_unknowns (rule_at B s)) 1 0) at,
     )
 
 pub returns-then-found : goal.returns-then-found
 returns-then-found c =
+    let back_7 = c.before.before.before.before.before.before.before in
     let yes = c.if-found.true in
     let l = c.loop-rule in (
-      told_same l.invariant.0 l.invariant.1 (among_found (book_of_here c.before.before.before.before.before.before.before) (member_of c.before.before.before.before.before.before.before) _ _ (within c.before.before.before.before.before.before.before) _ _ _ (found c.before.before) yes),
+      told_same l.invariant.0 l.invariant.1
+          (among_found (book_of_here back_7) (member_of back_7) _ _ (within back_7) _ _ _ (found c.before.before) yes),
       c.next_by-found.ensures.1,
     )
 
 pub loop-rule-preserved : goal.loop-rule-preserved
 loop-rule-preserved c =
+    let back_7 = c.before.before.before.before.before.before.before in
     let l = c.loop-rule in
-    let later = among_later (book_of_here c.before.before.before.before.before.before.before) (member_of c.before.before.before.before.before.before.before) _ _ (within c.before.before.before.before.before.before.before) _ _ _ (found c.before.before) c.if-found.false in
+    let later = among_later (book_of_here back_7) (member_of back_7) _ _ (within back_7) _ _ _ (found c.before.before) c.if-found.false in
     (l.invariant.0 ∙ later.0, later.1 ∙ l.invariant.1)
 
 pub returns : goal.returns

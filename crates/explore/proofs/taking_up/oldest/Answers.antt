@@ -24,7 +24,8 @@ abbrev At-loop : Type 0
 At-loop = lts.At-loop tie.the-claims reads.Pre reads.Post goal.the-invariant-loop-passed goal.the-decreases-loop-passed
 
 abbrev After-shared_slice_known2 : Type 0
-After-shared_slice_known2 = lts.After-shared_slice_known2 tie.the-claims reads.Pre reads.Post goal.the-invariant-loop-passed goal.the-decreases-loop-passed
+After-shared_slice_known2 = lts.After-shared_slice_known2 tie.the-claims reads.Pre reads.Post
+    goal.the-invariant-loop-passed goal.the-decreases-loop-passed
 
 abbrev Else1 : Type 0
 Else1 = lts.Else1 tie.the-claims reads.Pre reads.Post goal.the-invariant-loop-passed goal.the-decreases-loop-passed

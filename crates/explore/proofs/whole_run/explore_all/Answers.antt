@@ -87,27 +87,31 @@ shape_of-work-then-taken-allowed c = sized c.before.before.before.before
 
 pub returns-then-taken-allowed : goal.returns-then-taken-allowed
 returns-then-taken-allowed c =
-    outcome_ten (book_of_here c.before.before.before.before) c.loop-filled.invariant.0 c.loop-filled-test.true (c.if-taken-allowed.true ∙ allowed_is c.before.before.before.before)
+    let back_4 = c.before.before.before.before in
+    outcome_ten (book_of_here back_4) c.loop-filled.invariant.0 c.loop-filled-test.true (c.if-taken-allowed.true ∙ allowed_is back_4)
 
 pub oldest-member-requires : goal.oldest-member-requires
 oldest-member-requires c = (c.loop-filled.invariant.0.working, c.loop-filled-test.true)
 
 pub overflow_add-taken : goal.overflow_add-taken
 overflow_add-taken c =
-    omega (arith, c.loop-filled.invariant.0.few, allowed_few (book_of_here c.before.before.before.before.before) c.requires.0)
+    let back_5 = c.before.before.before.before.before in
+    omega (arith, c.loop-filled.invariant.0.few, allowed_few (book_of_here back_5) c.requires.0)
 
 pub overflow_add-filled : goal.overflow_add-filled
 overflow_add-filled c = omega (arith, c.loop-filled-test.true, c.loop-filled.invariant.0.working.few)
 
 pub explore-explored-requires : goal.explore-explored-requires
 explore-explored-requires c =
+    let back_8 = c.before.before.before.before.before.before.before.before in
+    let back_11 = back_8.before.before.before in
     let s = c.requires.0 in
     let old = c.oldest-member.ensures in (
       s,
-      omega (arith, rules_read (book_of_here c.before.before.before.before.before.before.before.before.before.before.before) s _ c.read-header.ensures),
+      omega (arith, rules_read (book_of_here back_11) s _ c.read-header.ensures),
       c.starts-starts.ensures,
-      member_of (book_of_here c.before.before.before.before.before.before.before.before.before.before.before) c.loop-filled.invariant.0 c.loop-filled-test.true (more c.before.before.before.before.before.before.before.before) s old.0 old.1 _ old.2,
-      taken_working (book_of_here c.before.before.before.before.before.before.before.before.before.before.before) c.loop-filled.invariant.0 c.loop-filled-test.true (more c.before.before.before.before.before.before.before.before),
+      member_of (book_of_here back_11) c.loop-filled.invariant.0 c.loop-filled-test.true (more back_8) s old.0 old.1 _ old.2,
+      taken_working (book_of_here back_11) c.loop-filled.invariant.0 c.loop-filled-test.true (more back_8),
       c.answer_records-answers.ensures,
       c.requires.2,
       c.head_sets-heads.ensures,
@@ -116,25 +120,32 @@ explore-explored-requires c =
 
 pub loop-filled-smaller : goal.loop-filled-smaller
 loop-filled-smaller c =
-    omega (arith, more c.before.before.before.before.before.before.before.before.before.before.before.before, allowed_is c.before.before.before.before.before.before.before.before.before.before.before.before.before.before.before)
+    let back_12 = c.before.before.before.before.before.before.before.before.before.before.before.before in
+    let back_15 = back_12.before.before.before in
+    omega (arith, more back_12, allowed_is back_15)
 
 pub loop-filled-preserved : goal.loop-filled-preserved
 loop-filled-preserved c =
+    let back_12 = c.before.before.before.before.before.before.before.before.before.before.before.before in
+    let back_15 = back_12.before.before.before in
     let old = c.oldest-member.ensures in
     let is = c.in-Passed.is in (
-      running_next (book_of_here c.before.before.before.before.before.before.before.before.before.before.before.before.before.before.before) c.loop-filled.invariant.0 c.loop-filled-test.true (more c.before.before.before.before.before.before.before.before.before.before.before.before) c.requires.0 old.0 old.1 _ old.2
+      running_next (book_of_here back_15) c.loop-filled.invariant.0 c.loop-filled-test.true (more back_12) c.requires.0 old.0 old.1 _ old.2
           c.explore-explored.new.work c.explore-explored.result c.explore-explored.ensures.0 _ is,
       subst (SetsLeft c.explore-explored.new.sets c.explore-explored.new.work) is c.explore-explored.ensures.1,
     )
 
 pub shape_of-work-in-Refused : goal.shape_of-work-in-Refused
 shape_of-work-in-Refused c =
-    c.work-in-loop-filled-1.given ∙ sized c.before.before.before.before.before.before.before.before.before.before.before.before.before.before.before
+    let back_15 = c.before.before.before.before.before.before.before.before.before.before.before.before.before.before.before in
+    c.work-in-loop-filled-1.given ∙ sized back_15
 
 pub returns-in-Refused : goal.returns-in-Refused
 returns-in-Refused c =
+    let back_12 = c.before.before.before.before.before.before.before.before.before.before.before.before in
+    let back_15 = back_12.before.before.before in
     let old = c.oldest-member.ensures in
-    outcome_refused (book_of_here c.before.before.before.before.before.before.before.before.before.before.before.before.before.before.before) c.loop-filled.invariant.0 c.loop-filled-test.true (more c.before.before.before.before.before.before.before.before.before.before.before.before) c.requires.0 old.0 old.1 _
+    outcome_refused (book_of_here back_15) c.loop-filled.invariant.0 c.loop-filled-test.true (more back_12) c.requires.0 old.0 old.1 _
     old.2 c.explore-explored.new.work c.explore-explored.result c.explore-explored.ensures.0 _ c.in-Refused.is
 
 pub shape_of-work : goal.shape_of-work
@@ -142,4 +153,5 @@ shape_of-work c = sized c.before.before.before
 
 pub returns : goal.returns
 returns c =
-    outcome_complete (book_of_here c.before.before.before) c.loop-filled.invariant.0 (allowed_few (book_of_here c.before.before.before) c.requires.0) c.loop-filled-test.false
+    outcome_complete (book_of_here c.before.before.before) c.loop-filled.invariant.0
+        (allowed_few (book_of_here c.before.before.before) c.requires.0) c.loop-filled-test.false

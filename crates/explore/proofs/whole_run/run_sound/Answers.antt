@@ -44,14 +44,16 @@ answer_records-answers-requires c = c.requires.0
 
 pub put_union-end-requires : goal.put_union-end-requires
 put_union-end-requires c =
+    let back_4 = c.before.before.before.before in
+    let back_5 = back_4.before in
     let B = c.args.book.now in
-    let x = complete c.before.before.before.before.before in
+    let x = complete back_5 in
     let w = x.1 in (
       stands_all w,
       have_answers B c.args.wide.now c.args.out.now c.requires.4 c.requires.0 c.requires.3 _ _ _ x _
           c.answer_records-answers.ensures,
-      few_places B c.args.wide.now c.args.out.now c.requires.4 c.requires.0 c.requires.3 _ _ _ x _ (places_read c.before.before.before.before),
-      omega (arith, places_read c.before.before.before.before, (form_known B).few_places),
+      few_places B c.args.wide.now c.args.out.now c.requires.4 c.requires.0 c.requires.3 _ _ _ x _ (places_read back_4),
+      omega (arith, places_read back_4, (form_known B).few_places),
       omega (arith, w.held.size),
       omega (arith, w.held.size, c.requires.4),
       omega (arith, w.held.size),
@@ -61,8 +63,10 @@ put_union-end-requires c =
 
 pub returns-in-Complete : goal.returns-in-Complete
 returns-in-Complete c =
+    let back_7 = c.before.before.before.before.before.before.before in
+    let back_8 = back_7.before in
     returns_complete c.args.book.now c.args.wide.now c.args.out.now c.requires.4 c.requires.0 c.requires.3 _ _ _
-    (complete c.before.before.before.before.before.before.before.before) _ _ c.answer_records-answers.ensures (places_read c.before.before.before.before.before.before.before) _ _ c.put_union-end.ensures
+    (complete back_8) _ _ c.answer_records-answers.ensures (places_read back_7) _ _ c.put_union-end.ensures
 
 pub returns-in-Refused : goal.returns-in-Refused
 returns-in-Refused c =
