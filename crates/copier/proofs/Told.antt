@@ -11,7 +11,8 @@ use Rattle.copier.specs.Told.{refusal, written, told}
 written_refusal : (m q : ℕ) (after : List ℕ) → 0 < m → written m q after ≡ refusal m q
 written_refusal m q after some = grind arith
 
-pub written_told : (c : Copied) → ((m q : ℕ) → c ≡ refused m q → 0 < m) → (out after : List ℕ) (n p : ℕ) → Copies c out n p after → written n p after ≡ told c
+pub written_told : (c : Copied) → ((m q : ℕ) → c ≡ refused m q → 0 < m) → (out after : List ℕ) (n p : ℕ) → Copies c
+    out n p after → written n p after ≡ told c
 written_told (copied l) f out after n p k =
     ap (λ (x : ℕ × ℕ). written x.0 x.1 after) k.answers ∙ ap (take (length l)) k.writes ∙ take_at l _ (length l) refl
 written_told (refused m q) f out after n p k =
@@ -24,4 +25,5 @@ module _ (make : List ℕ → ℕ → Copied) (numbered : (B : List ℕ) (room m
       → IfSome a (λ xs. Appends old new (told (make (take 65536 xs) copy_room)))
   copy_told a b old new room read out after n p full fits k fills w =
       let e = written_told (make read (length out)) (numbered read (length out)) out after n p k ∙ ap (λ r. told (make read r)) fits in
-      of_front (λ xs. Appends old new (told (make xs copy_room))) a b 65536 read (subst (λ r. Fills r a b read) full fills) (subst (Appends old new) e w)
+      of_front (λ xs. Appends old new (told (make xs copy_room))) a b 65536 read
+          (subst (λ r. Fills r a b read) full fills) (subst (Appends old new) e w)

@@ -6,7 +6,8 @@ use Rattle.input.specs.Filled.{Fills}
 use Rattle.rauntiko_batch.specs.Batch.{Skips}
 
 -- the reader's bytes, where they are known
-pub fills_of : (b c : Option (List ℕ)) (room : ℕ) (read xs : List ℕ) → b ≡ Some xs → Fills room b c read → (read ≡ take room xs) × (c ≡ Some (drop room xs))
+pub fills_of : (b c : Option (List ℕ)) (room : ℕ) (read xs : List ℕ) → b ≡ Some xs → Fills room b c read
+    → (read ≡ take room xs) × (c ≡ Some (drop room xs))
 fills_of b c room read xs e f = subst (λ o. Fills room o c read) e f
 
 pub skip_none : (a : Option (List ℕ)) → Skips 0 a a true
@@ -14,15 +15,18 @@ skip_none None = tt
 skip_none (Some xs) = (omega arith, refl)
 
 -- as many as were asked for
-pub skip_more : (a b c : Option (List ℕ)) (done step room : ℕ) (read : List ℕ) → Skips done a b true → Fills room b c read → room ≡ step → step ≤ length read → Skips (done + step) a c true
+pub skip_more : (a b c : Option (List ℕ)) (done step room : ℕ) (read : List ℕ) → Skips done a b true → Fills room b c
+    read → room ≡ step → step ≤ length read → Skips (done + step) a c true
 skip_more None b c done step room read s f all full = tt
 skip_more (Some xs) b c done step room read s f all full =
     let g = fills_of b c room read (drop done xs) s.1 f in
     let long : step ≤ length (drop done xs) = omega (arith, full, ap length g.0, all, length-take room (drop done xs)) in
-    (omega (arith, s.0, long, length-drop done xs), g.1 ∙ ap (λ (l : List ℕ). Some l) (ap (λ r. drop r (drop done xs)) all ∙ drop-drop step done xs))
+    (omega (arith, s.0, long, length-drop done xs), g.1 ∙ ap (λ (l : List ℕ). Some l)
+        (ap (λ r. drop r (drop done xs)) all ∙ drop-drop step done xs))
 
 -- or fewer, and then the reader is at its end
-pub skip_short : (a b c d : Option (List ℕ)) (done step room n : ℕ) (read : List ℕ) → Skips done a b true → Fills room b c read → room ≡ step → length read < step → done + step ≤ n
+pub skip_short : (a b c d : Option (List ℕ)) (done step room n : ℕ) (read : List ℕ) → Skips done a b true → Fills
+    room b c read → room ≡ step → length read < step → done + step ≤ n
     → Skips n a d false
 skip_short None b c d done step room n read s f all short within = tt
 skip_short (Some xs) b c d done step room n read s f all short within =

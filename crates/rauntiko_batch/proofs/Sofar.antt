@@ -18,15 +18,18 @@ pub sofar_none : (a old : Option (List ℕ)) → Sofar a a old old 0
 sofar_none None old = tt
 sofar_none (Some xs) old = (xs, [], refl, Appends-nil old, λ zs z. z, omega arith)
 
-pub sofar_more : (a b c old mid new : Option (List ℕ)) (turns : ℕ) → Sofar a b old mid turns → AnswersFirst b c mid new true → Sofar a c old new (turns + 1)
+pub sofar_more : (a b c old mid new : Option (List ℕ)) (turns : ℕ) → Sofar a b old mid turns → AnswersFirst b c mid
+    new true → Sofar a c old new (turns + 1)
 sofar_more None b c old mid new turns s f = tt
 sofar_more (Some xs) b c old mid new turns s f =
     let rest = s.0 in
     let ys = s.1 in
     let g : AnswersFirst (Some rest) c mid new true = subst (λ o. AnswersFirst o c mid new true) s.2 f in
     let then : (zs : List ℕ) → Answered (after_first rest) zs → Answered xs ((ys ++ first_answer rest) ++ zs) =
-    λ zs z. subst (Answered xs) (sym (append_assoc ys (first_answer rest) zs)) (s.4 (first_answer rest ++ zs) (Answered.first rest zs g.0 z)) in
-    (after_first rest, ys ++ first_answer rest, g.1, Appends-trans old mid new ys (first_answer rest) s.3 g.2, then, omega (arith, s.5, g.0, length-drop (4 + first_size rest) rest))
+    λ zs z. subst (Answered xs) (sym (append_assoc ys (first_answer rest) zs))
+        (s.4 (first_answer rest ++ zs) (Answered.first rest zs g.0 z)) in
+    (after_first rest, ys ++ first_answer rest, g.1, Appends-trans old mid new ys (first_answer rest) s.3 g.2, then,
+        omega (arith, s.5, g.0, length-drop (4 + first_size rest) rest))
 
 pub sofar_all : (a b c old mid new : Option (List ℕ)) (turns : ℕ) → Sofar a b old mid turns → AnswersFirst b c mid new false → All a old new
 sofar_all None b c old mid new turns s f = tt

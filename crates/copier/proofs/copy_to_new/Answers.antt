@@ -16,6 +16,8 @@ returns g c =
     let read = take c.in_ok-n.n c.fill.new.into in
     let copy = c.to_new-copy in
     let told =
-    copy_told to_new new_numbered (g.R.Read.remaining c.args.reader.now) (g.R.Read.remaining c.fill.new.reader) (g.W.Write.contents c.args.out.now)
-    (g.W.Write.contents c.write_copy.new.out) _ read _ copy.new.out copy.result.number copy.result.place room (search rules) copy.ensures c.in_ok-n.ensures.bytes in
+    copy_told to_new new_numbered (g.R.Read.remaining c.args.reader.now) (g.R.Read.remaining c.fill.new.reader)
+        (g.W.Write.contents c.args.out.now)
+    (g.W.Write.contents c.write_copy.new.out) _ read _ copy.new.out copy.result.number copy.result.place room
+        (search rules) copy.ensures c.in_ok-n.ensures.bytes in
     on_ok_weaker c.write_copy.result told c.write_copy.ensures

@@ -17,7 +17,8 @@ loop-left-preserved g c =
     let full : step ≤ length read = omega (arith, c.in_ok-got.ensures.bound.1, c.if-got-step.false) in (
       done + step,
       omega (arith, c.loop-left.invariant.1, fits),
-      skip_more (g.R.Read.remaining c.args.reader.now) (g.R.Read.remaining c.loop-left.reader) (g.R.Read.remaining c.fill.new.reader) done step _ read c.loop-left.invariant.2
+      skip_more (g.R.Read.remaining c.args.reader.now) (g.R.Read.remaining c.loop-left.reader)
+          (g.R.Read.remaining c.fill.new.reader) done step _ read c.loop-left.invariant.2
           c.in_ok-got.ensures.bytes room full,
     )
 
@@ -35,5 +36,6 @@ returns-then-got-step g c =
     let fits : step ≤ c.loop-left.left = search rules in
     let short : length read < step = omega (arith, c.in_ok-got.ensures.bound.1, c.if-got-step.true) in
     let within : done + step ≤ c.args.n = omega (arith, c.loop-left.invariant.1, fits) in
-    skip_short (g.R.Read.remaining c.args.reader.now) (g.R.Read.remaining c.loop-left.reader) (g.R.Read.remaining c.fill.new.reader) _ done step _ c.args.n read c.loop-left.invariant.2
+    skip_short (g.R.Read.remaining c.args.reader.now) (g.R.Read.remaining c.loop-left.reader)
+        (g.R.Read.remaining c.fill.new.reader) _ done step _ c.args.n read c.loop-left.invariant.2
     c.in_ok-got.ensures.bytes room short within

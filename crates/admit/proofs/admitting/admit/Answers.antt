@@ -56,34 +56,45 @@ pub overflow_add-answers : goal.overflow_add-answers
 overflow_add-answers c = omega (arith, c.requires.2)
 
 pub returns-then-answers-rewriting : goal.returns-then-answers-rewriting
-returns-then-answers-rewriting c = (
-  fate_long c.args.answers c.requires.2 c.requires.0 _ _ (first c.before.before.before.before) c.if-member_covering-filled.false
+returns-then-answers-rewriting c =
+    let back_4 = c.before.before.before.before in (
+  fate_long c.args.answers c.requires.2 c.requires.0 _ _ (first back_4) c.if-member_covering-filled.false
       (omega (arith, question_count stored c.args.rewriting.now, c.if-answers-rewriting.true)),
   tt,
 )
 
 pub returns-then-count-ge-ROOM : goal.returns-then-count-ge-ROOM
 returns-then-count-ge-ROOM c =
+    let back_4 = c.before.before.before.before in
+    let back_10 = back_4.before.before.before.before.before.before in
     let kept = c.remove_covered-kept.ensures in (
-      fate_full c.args.answers c.requires.2 c.requires.0 _ _ (first c.before.before.before.before.before.before.before.before.before.before) c.if-member_covering-filled.false (short c.before.before.before.before) kept.0 kept.1 c.if-count-ge-ROOM.true,
+      fate_full c.args.answers c.requires.2 c.requires.0 _ _ (first back_10) c.if-member_covering-filled.false
+          (short back_4) kept.0 kept.1 c.if-count-ge-ROOM.true,
       tt,
     )
 
 pub append-len-requires : goal.append-len-requires
 append-len-requires c =
+    let back_6 = c.before.before.before.before.before.before in
+    let back_12 = back_6.before.before.before.before.before.before in
     let kept = c.remove_covered-kept.ensures in
     let room =
-    room_left c.args.answers c.requires.2 c.requires.0 _ _ (first c.before.before.before.before.before.before.before.before.before.before.before.before) c.if-member_covering-filled.false (short c.before.before.before.before.before.before) kept.0 kept.1 (fits c.before.before.before.before.before.before)
+    room_left c.args.answers c.requires.2 c.requires.0 _ _ (first back_12) c.if-member_covering-filled.false
+        (short back_6) kept.0 kept.1 (fits back_6)
     c.if-count-ge-ROOM.false in
     (c.requires.1, omega (arith, room, begun_long stored c.args.rewriting.now, kept.0.held.size))
 
 pub returns : goal.returns
 returns c =
+    let back_10 = c.before.before.before.before.before.before.before.before.before.before in
+    let back_16 = back_10.before.before.before.before.before.before in
     let kept = c.remove_covered-kept.ensures in
     let put = c.append-len.ensures in
     let room = c.if-count-ge-ROOM.false in
     let set = c.relations-there.ensures in (
-      fate_appended c.args.answers c.requires.2 c.requires.0 _ _ (first c.before.before.before.before.before.before.before.before.before.before.before.before.before.before.before.before) c.if-member_covering-filled.false (short c.before.before.before.before.before.before.before.before.before.before) kept.0 kept.1 (fits c.before.before.before.before.before.before.before.before.before.before) room _ _ put.0 put.1,
-      sets_appended c.args.answers c.requires.2 c.requires.0 _ _ (first c.before.before.before.before.before.before.before.before.before.before.before.before.before.before.before.before) c.if-member_covering-filled.false (short c.before.before.before.before.before.before.before.before.before.before) kept.0 kept.1 (fits c.before.before.before.before.before.before.before.before.before.before) room _ _ put.0 put.1
+      fate_appended c.args.answers c.requires.2 c.requires.0 _ _ (first back_16) c.if-member_covering-filled.false
+          (short back_10) kept.0 kept.1 (fits back_10) room _ _ put.0 put.1,
+      sets_appended c.args.answers c.requires.2 c.requires.0 _ _ (first back_16) c.if-member_covering-filled.false
+          (short back_10) kept.0 kept.1 (fits back_10) room _ _ put.0 put.1
           kept.2 set,
     )

@@ -61,11 +61,13 @@ covers_member-requires c =
 
 pub move_down-requires : goal.move_down-requires
 move_down-requires c =
-    (c.loop-i.invariant.0.lower, omega (arith, c.width-width.ensures, inside c.before.before.before.before.before.before.before.before.before))
+    let back_9 = c.before.before.before.before.before.before.before.before.before in
+    (c.loop-i.invariant.0.lower, omega (arith, c.width-width.ensures, inside back_9))
 
 pub overflow_add-end : goal.overflow_add-end
 overflow_add-end c =
-    omega (arith, c.width-width.ensures, c.loop-i.invariant.0.lower, inside c.before.before.before.before.before.before.before.before.before.before.before.before)
+    let back_12 = c.before.before.before.before.before.before.before.before.before.before.before.before in
+    omega (arith, c.width-width.ensures, c.loop-i.invariant.0.lower, inside back_12)
 
 pub overflow_add-kept : goal.overflow_add-kept
 overflow_add-kept c = omega (arith, c.loop-i.invariant.0.few, c.loop-i.invariant.0.passed)

@@ -34,10 +34,12 @@ use Rattle.admit.proofs.searching.member_covering.Tie as tie
 use Rattle.admit.proofs.searching.member_covering.Goals as goal
 
 abbrev Else1 : Type 0
-Else1 = lts.Else1 tie.the-claims reads.Pre reads.Post goal.the-invariant-atoms goal.the-decreases-atoms goal.the-invariant-members goal.the-decreases-members
+Else1 = lts.Else1 tie.the-claims reads.Pre reads.Post goal.the-invariant-atoms goal.the-decreases-atoms
+    goal.the-invariant-members goal.the-decreases-members
 
 abbrev Else3 : Type 0
-Else3 = lts.Else3 tie.the-claims reads.Pre reads.Post goal.the-invariant-atoms goal.the-decreases-atoms goal.the-invariant-members goal.the-decreases-members
+Else3 = lts.Else3 tie.the-claims reads.Pre reads.Post goal.the-invariant-atoms goal.the-decreases-atoms
+    goal.the-invariant-members goal.the-decreases-members
 
 -- the member of this turn
 here : (c : Else1)
@@ -104,9 +106,10 @@ overflow_add-at c = omega (arith, here c.before.before.before.before.before.befo
 
 pub members-preserved-then-not-is_part : goal.members-preserved-then-not-is_part
 members-preserved-then-not-is_part c =
+    let back_7 = c.before.before.before.before.before.before.before in
     let m = c.members in
-    let none = not_part _ _ (own c.before.before.before.before.before.before.before) c.requires.5 (sym c.is_part.ensures ∙ not_true _ c.if-not-is_part.true-raw) in
-    let next = others c.before.before.before.before.before.before.before _ c.width-width.ensures none in
+    let none = not_part _ _ (own back_7) c.requires.5 (sym c.is_part.ensures ∙ not_true _ c.if-not-is_part.true-raw) in
+    let next = others back_7 _ c.width-width.ensures none in
     (search rules, next.0, omega (arith, m.invariant.2, next.1), m.invariant.3, m.invariant.4 ∙ next.2, next.3)
 
 pub bounds-work-at-in-members : goal.bounds-work-at-in-members
@@ -123,12 +126,14 @@ atoms-init c = (omega arith, c.members.invariant.3, map_one _ _ (some c.before.b
 
 pub covers_on-requires : goal.covers_on-requires
 covers_on-requires c =
+    let back_5 = c.before.before.before.before.before in
+    let back_13 = back_5.before.before.before.before.before.before.before.before in
     let part = sym (part_is c.args.work.now c.members.at) in (
-      subst (SoundRecord stored) part (here c.before.before.before.before.before.before.before.before.before.before.before.before.before).sound,
+      subst (SoundRecord stored) part (here back_13).sound,
       c.requires.2,
       ap length c.atoms.invariant.1,
       search rules,
-      subst (λ (M : List ℕ). 1 ≤ get_or M 0 0) part (some c.before.before.before.before.before),
+      subst (λ (M : List ℕ). 1 ≤ get_or M 0 0) part (some back_5),
     )
 
 pub atoms-preserved : goal.atoms-preserved
@@ -142,13 +147,15 @@ atoms-preserved c =
 
 pub overflow_add-at-in-members : goal.overflow_add-at-in-members
 overflow_add-at-in-members c =
-    omega (arith, here c.before.before.before.before.before.before.before.before.before.before.before.before, c.width-width.ensures)
+    let back_12 = c.before.before.before.before.before.before.before.before.before.before.before.before in
+    omega (arith, here back_12, c.width-width.ensures)
 
 pub members-preserved : goal.members-preserved
 members-preserved c =
+    let back_12 = c.before.before.before.before.before.before.before.before.before.before.before.before in
     let m = c.members in
     let none = c.atoms.invariant.2 ∙ maps_end _ _ _ _ c.if-w-k.true in
-    let next = others c.before.before.before.before.before.before.before.before.before.before.before.before _ c.width-width.ensures (covers_is _ _ ∙ ap is_some none) in
+    let next = others back_12 _ c.width-width.ensures (covers_is _ _ ∙ ap is_some none) in
     (search rules, next.0, omega (arith, m.invariant.2, next.1), c.atoms.invariant.1, m.invariant.4 ∙ next.2, next.3)
 
 pub returns-then-count-i : goal.returns-then-count-i
@@ -171,7 +178,8 @@ returns-then-work-at-eq0 c =
     first_hit covers (question_of stored a.rewriting.now) a.work.now at _ _ c.if-count-i.false (covers_is _ _ ∙ ap is_some one) in
     let f =
     by_hit (question_of stored a.rewriting.now) a.work.now at _ _ c.if-count-i.false (ap is_some one) in
-    (omega (arith, c.members.invariant.2, e), c.members.invariant.3 ∙ sym (nowhere_map 96) ∙ ap (map_or 96) (sym (c.members.invariant.4 ∙ f ∙ one)))
+    (omega (arith, c.members.invariant.2, e), c.members.invariant.3 ∙ sym (nowhere_map 96) ∙ ap (map_or 96)
+        (sym (c.members.invariant.4 ∙ f ∙ one)))
 
 pub returns-then-covers_on : goal.returns-then-covers_on
 returns-then-covers_on c =

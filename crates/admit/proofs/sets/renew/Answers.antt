@@ -64,6 +64,7 @@ loop-i-smaller c = omega (arith, c.loop-i-test.true)
 
 pub loop-i-preserved : goal.loop-i-preserved
 loop-i-preserved c =
+    let back_6 = c.before.before.before.before.before.before in
     let W = c.args.work.now in
     let l = c.loop-i in
     let made = c.relations.ensures ∙ ap (λ (B : List ℕ). relations_of (question_of stored B)) (part_is W l.at) in
@@ -71,7 +72,7 @@ loop-i-preserved c =
       omega (arith, c.loop-i-test.true),
       length-set l.sets l.i c.relations.result ∙ l.invariant.1,
       ap (λ (k : ℕ). l.at + k) wide ∙ next_end W l.at l.i l.invariant.2,
-      subst (λ (k : ℕ). Standing W (l.at + k) (c.args.count - (l.i + 1))) (sym wide) (here c.before.before.before.before.before.before).rest,
+      subst (λ (k : ℕ). Standing W (l.at + k) (c.args.count - (l.i + 1))) (sym wide) (here back_6).rest,
       sets_next W l.at l.i l.invariant.2 l.sets _ (omega (arith, c.loop-i-test.true, c.requires.0, l.invariant.1)) made l.invariant.4,
     )
 

@@ -8,7 +8,8 @@ use lib.Seq.{paste}
 use Rattle.admit.proofs.working.move_down.Given as goal
 
 abbrev pub invariant-loop-i : goal.invariant-loop-i
-invariant-loop-i l = (l.i ≤ l.width) × (length l.work ≡ length l.initial.work) × (l.work ≡ paste l.initial.work l.to (drop l.from l.initial.work) l.i)
+invariant-loop-i l = (l.i ≤ l.width) × (length l.work ≡ length l.initial.work) ×
+    (l.work ≡ paste l.initial.work l.to (drop l.from l.initial.work) l.i)
 
 abbrev pub decreases-loop-i : goal.decreases-loop-i
 decreases-loop-i l = l.width - l.i

@@ -98,12 +98,14 @@ late_in_atoms-requires c =
 
 pub returns : goal.returns
 returns c =
+    let back_9 = c.before.before.before.before.before.before.before.before.before in
+    let back_10 = back_9.before in
     let B = c.args.book.now
     in
     c.late_in_atoms.ensures
-    ∙ ap₂ (λ (i n : ℕ). told 13 (late_in_atoms B i n)) (known c.before.before.before.before.before.before.before.before.before.before).question_is (counted c.before.before)
+    ∙ ap₂ (λ (i n : ℕ). told 13 (late_in_atoms B i n)) (known back_10).question_is (counted c.before.before)
     ∙ sym
-    (left_in_question B (same_number (sym (searched c.before.before.before.before.before.before.before.before.before))
+    (left_in_question B (same_number (sym (searched back_9))
     ∙ c.if-relation-ne0.false)
     (same_number (sym c.late_in_rules-rule.ensures)
     ∙ c.if-rule-ne0.false))

@@ -76,24 +76,26 @@ copy_atoms-end-requires c =
 
 pub put_words-requires : goal.put_words-requires
 put_words-requires c =
+    let back_7 = c.before.before.before.before.before.before.before in
     let v = c.places_for-v.ensures in
     let p₁ = c.put_bytes-start.ensures in
     let p₂ = c.put_rules-question.ensures in
     let p₃ = c.copy_atoms-end.ensures in
-    let room = words_room _ _ c.requires.0 c.requires.1 (header_is c.before.before.before.before.before.before.before) p₁ c.requires.2 p₂ (counted c.before.before.before.before.before.before.before) v p₃ in (
+    let room = words_room _ _ c.requires.0 c.requires.1 (header_is back_7) p₁ c.requires.2 p₂ (counted back_7) v p₃ in (
       room.0,
-      words_fit _ _ c.requires.0 c.requires.1 (header_is c.before.before.before.before.before.before.before) p₁ c.requires.2 p₂ (counted c.before.before.before.before.before.before.before) v p₃,
+      words_fit _ _ c.requires.0 c.requires.1 (header_is back_7) p₁ c.requires.2 p₂ (counted back_7) v p₃,
       room.1,
     )
 
 pub returns : goal.returns
 returns c =
+    let back_10 = c.before.before.before.before.before.before.before.before.before.before in
     let v = c.places_for-v.ensures in
     let p₁ = c.put_bytes-start.ensures in
     let p₂ = c.put_rules-question.ensures in
     let p₃ = c.copy_atoms-end.ensures in
     let p₄ = c.put_words.ensures in
-    book_put _ _ c.requires.0 c.requires.1 (header_is c.before.before.before.before.before.before.before.before.before.before) p₁ c.requires.2 p₂ (counted c.before.before.before.before.before.before.before.before.before.before) v p₃ p₄
+    book_put _ _ c.requires.0 c.requires.1 (header_is back_10) p₁ c.requires.2 p₂ (counted back_10) v p₃ p₄
 
 pub shape_of-out : goal.shape_of-out
 shape_of-out c = kept (returns c)

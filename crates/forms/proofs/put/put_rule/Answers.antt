@@ -46,13 +46,14 @@ bounds-out-at-2 c = simp length-set (omega (arith, room c.before.before.before.b
 
 pub copy_atoms-end-requires : goal.copy_atoms-end-requires
 copy_atoms-end-requires c =
+    let back_9 = c.before.before.before.before.before.before.before.before.before in
     let w = c.requires.1 in
     let b = c.wide-b.ensures.0 in
     let h = c.wide-h.ensures.0 in
     let v = c.places_for-v.ensures in (
       body_in c.requires.0 w b h v,
       body_few c.requires.0 w b h v,
-      simp length-set (rw (b, v) (omega (arith, room c.before.before.before.before.before.before.before.before.before))),
+      simp length-set (rw (b, v) (omega (arith, room back_9))),
     )
 
 pub overflow_add-w : goal.overflow_add-w
@@ -67,6 +68,7 @@ overflow_add-s-3 c = omega (arith, (heads c.before).fits)
 
 pub copy_atoms-requires : goal.copy_atoms-requires
 copy_atoms-requires c =
+    let back_13 = c.before.before.before.before.before.before.before.before.before.before.before.before.before in
     let w = c.requires.1 in
     let b = c.wide-b.ensures.0 in
     let h = c.wide-h.ensures.0 in
@@ -74,11 +76,12 @@ copy_atoms-requires c =
     let p = c.copy_atoms-end.ensures in (
       head_in c.requires.0 w b h v,
       head_few c.requires.0 w b h v,
-      head_room c.requires.0 w b h v c.args.at p (simp length-set (room c.before.before.before.before.before.before.before.before.before.before.before.before.before)),
+      head_room c.requires.0 w b h v c.args.at p (simp length-set (room back_13)),
     )
 
 pub returns : goal.returns
 returns c =
+    let back_16 = c.before.before.before.before.before.before.before.before.before.before.before.before.before.before.before.before in
     let a = c.args in
     let b = c.wide-b.ensures.0 in
     let h = c.wide-h.ensures.0 in
@@ -86,7 +89,7 @@ returns c =
     put_as (rule_put c.requires.0 c.requires.1 b h v)
     (then
     (put_two a.out.now a.at (body_count a.book.now a.s) (head_count a.book.now a.s)
-    (omega (arith, room c.before.before.before.before.before.before.before.before.before.before.before.before.before.before.before.before)))
+    (omega (arith, room back_16)))
     (then c.copy_atoms-end.ensures
     c.copy_atoms.ensures))
 

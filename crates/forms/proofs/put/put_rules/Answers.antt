@@ -50,11 +50,12 @@ ends : (c : After-wide2)
     → at_rule c + 2 + (1 + c.args.h.places) * (c.wide.result + c.wide-in-loop-k.result)
     ≡ rule_end c.args.book.now (at_rule c)
 ends c =
+    let back_12 = c.before.before.before.before.before.before.before.before.before.before.before.before in
     let B = c.args.book.now in
     let s = at_rule c in
     let n : c.wide.result + c.wide-in-loop-k.result ≡ body_count B s + head_count B s =
     omega (arith, c.wide.ensures.0, c.wide-in-loop-k.ensures.0) in
-    ap₂ (λ (w m : ℕ). s + 2 + (1 + w) * m) (places c.before.before.before.before.before.before.before.before.before.before.before.before) n
+    ap₂ (λ (w m : ℕ). s + 2 + (1 + w) * m) (places back_12) n
 
 within : (c : After-wide2)
     → rule_end c.args.book.now (at_rule c) ≤ length c.args.book.now
@@ -80,8 +81,9 @@ overflow_add-s c = omega (arith, (ready c.before.before.before.before.before).he
 
 pub overflow_add-s-in-loop-k : goal.overflow_add-s-in-loop-k
 overflow_add-s-in-loop-k c =
+    let back_9 = c.before.before.before.before.before.before.before.before.before in
     omega
-    (arith, places c.before.before.before.before.before.before.before.before.before, (form_known c.args.book.now).few_places)
+    (arith, places back_9, (form_known c.args.book.now).few_places)
 
 pub bounds-book-s : goal.bounds-book-s
 bounds-book-s c = omega (arith, (ready c.before.before.before.before.before.before).head.fits)
@@ -110,9 +112,10 @@ loop-k-smaller c = omega (arith, c.loop-k-test.true)
 
 pub loop-k-preserved : goal.loop-k-preserved
 loop-k-preserved c =
+    let back_13 = c.before.before.before.before.before.before.before.before.before.before.before.before.before in
     let l = c.loop-k in
     let more : l.k < rules c.args.book.now =
-    omega (arith, c.loop-k-test.true, count c.before.before.before.before.before.before.before.before.before.before.before.before.before) in
+    omega (arith, c.loop-k-test.true, count back_13) in
     rules_step _ _ _ _ l.invariant more (ends c.before) c.put_rule-end.ensures
 
 pub shape_of-out : goal.shape_of-out
