@@ -5,14 +5,12 @@ ghost use Rattle.std.specs.Prelude.{◌≡◌, ◌≤◌, length, take, OnOk, If
 ghost use Rattle.std.specs.Io.KnownBytes.{Appends};
 ghost use Rattle.reading.specs.Copy.{copy_room, to_new, to_old};
 ghost use Rattle.copier.specs.Told.{refusal, written, told};
+ghost use Rattle.input.specs.Looked.{looked_at};
 
 use forms::{BOOK, Copy};
-use input::fill;
+use input::{LOOKED_AT, fill};
 use std::io;
 use std::io::{Read, Write};
-
-// The most bytes of a book that are looked at.
-const INPUT: usize = 65536;
 
 // Writes the line of a refusal.
 fn write_refusal<W: Write>(out: &mut W, number: u8, place: usize) -> io::Result<()>
@@ -42,9 +40,9 @@ pub fn copy_to_new<R: Read, W: Write>(reader: &mut R, out: &mut W) -> io::Result
     ensures { OnOk result (IfSome (R.remaining reader.old) (λ xs. Appends
         (W.contents out.old)
         (W.contents out.new)
-        (told (to_new (take 65536 xs) copy_room)))) }
+        (told (to_new (take looked_at xs) copy_room)))) }
 {
-    let mut book = [0u8; INPUT];
+    let mut book = [0u8; LOOKED_AT];
     let n = fill(reader, &mut book)?;
     let mut bytes = [0u8; BOOK];
     let copy = forms::to_new(&book[..n], &mut bytes);
@@ -56,9 +54,9 @@ pub fn copy_to_old<R: Read, W: Write>(reader: &mut R, out: &mut W) -> io::Result
     ensures { OnOk result (IfSome (R.remaining reader.old) (λ xs. Appends
         (W.contents out.old)
         (W.contents out.new)
-        (told (to_old (take 65536 xs) copy_room)))) }
+        (told (to_old (take looked_at xs) copy_room)))) }
 {
-    let mut book = [0u8; INPUT];
+    let mut book = [0u8; LOOKED_AT];
     let n = fill(reader, &mut book)?;
     let mut bytes = [0u8; BOOK];
     let copy = forms::to_old(&book[..n], &mut bytes);

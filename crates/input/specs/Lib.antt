@@ -1,3 +1,4 @@
--- What a slice is filled with, and a number in bytes.
+-- What a slice is filled with, a number in bytes, and how much of a book is looked at.
 pub mod Filled
 pub mod Number
+pub mod Looked

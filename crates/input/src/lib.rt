@@ -9,6 +9,9 @@ ghost use Rattle.input.specs.Number.{low_first};
 use std::io;
 use std::io::Read;
 
+// The most bytes of a book that a program looks at: `looked_at` in the contracts.
+pub const LOOKED_AT: usize = 65536;
+
 // Reads until the slice is full or the input ends, and answers how many bytes it put at the slice's start: the front of
 // what the reader has, as much as fits. A read that fails ends it with its error.
 pub fn fill<R: Read>(reader: &mut R, into: &mut [u8]) -> io::Result<usize>

@@ -20,9 +20,11 @@ pub skip_more : (a b c : Option (List ℕ)) (done step room : ℕ) (read : List 
 skip_more None b c done step room read s f all full = tt
 skip_more (Some xs) b c done step room read s f all full =
     let g = fills_of b c room read (drop done xs) s.1 f in
-    let long : step ≤ length (drop done xs) = omega (arith, full, ap length g.0, all, length-take room (drop done xs)) in
-    (omega (arith, s.0, long, length-drop done xs), g.1 ∙ ap (λ (l : List ℕ). Some l)
-        (ap (λ r. drop r (drop done xs)) all ∙ drop-drop step done xs))
+    let long : step ≤ length (drop done xs) = omega (arith, full, ap length g.0, all, length-take room (drop done xs)) in (
+      omega (arith, s.0, long, length-drop done xs),
+      g.1 ∙ ap (λ (l : List ℕ). Some l)
+          (ap (λ r. drop r (drop done xs)) all ∙ drop-drop step done xs),
+    )
 
 -- or fewer, and then the reader is at its end
 pub skip_short : (a b c d : Option (List ℕ)) (done step room n : ℕ) (read : List ℕ) → Skips done a b true → Fills

@@ -27,9 +27,14 @@ sofar_more (Some xs) b c old mid new turns s f =
     let g : AnswersFirst (Some rest) c mid new true = subst (λ o. AnswersFirst o c mid new true) s.2 f in
     let then : (zs : List ℕ) → Answered (after_first rest) zs → Answered xs ((ys ++ first_answer rest) ++ zs) =
     λ zs z. subst (Answered xs) (sym (append_assoc ys (first_answer rest) zs))
-        (s.4 (first_answer rest ++ zs) (Answered.first rest zs g.0 z)) in
-    (after_first rest, ys ++ first_answer rest, g.1, Appends-trans old mid new ys (first_answer rest) s.3 g.2, then,
-        omega (arith, s.5, g.0, length-drop (4 + first_size rest) rest))
+    (s.4 (first_answer rest ++ zs) (Answered.first rest zs g.0 z)) in (
+      after_first rest,
+      ys ++ first_answer rest,
+      g.1,
+      Appends-trans old mid new ys (first_answer rest) s.3 g.2,
+      then,
+      omega (arith, s.5, g.0, length-drop (4 + first_size rest) rest),
+    )
 
 pub sofar_all : (a b c old mid new : Option (List ℕ)) (turns : ℕ) → Sofar a b old mid turns → AnswersFirst b c mid new false → All a old new
 sofar_all None b c old mid new turns s f = tt

@@ -3,6 +3,7 @@ use Rattle.std.specs.Prelude.{◌≡◌, ℕ, ◌+◌, ◌<◌, ◌≤◌, min, 
 use Rattle.std.specs.declared.option.Option.{Option}
 use Rattle.std.specs.Io.KnownBytes.{Appends, Keeps}
 use Rattle.input.specs.Number.{low_first}
+use Rattle.input.specs.Looked.{looked_at}
 use Rattle.printing.specs.Answer.{lines_of, text_size}
 
 -- the length that stands before the first book
@@ -15,7 +16,7 @@ HasBook xs = 4 + first_size xs ≤ length xs
 
 -- its bytes, of which no more than these are looked at
 abbrev pub first_book : List ℕ → List ℕ
-first_book xs = take (min (first_size xs) 65536) (drop 4 xs)
+first_book xs = take (min (first_size xs) looked_at) (drop 4 xs)
 
 -- what follows it
 abbrev pub after_first : List ℕ → List ℕ

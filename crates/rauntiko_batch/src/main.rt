@@ -6,13 +6,11 @@
 ghost use Rattle.std.specs.Prelude.{◌≡◌, ◌<◌, ◌≤◌, ◌^◌, List, ℕ, length, min, IfOk, OnOk, IfSome};
 ghost use Rattle.std.specs.Io.KnownBytes.{Appends};
 ghost use Rattle.rauntiko_batch.specs.Batch.{Skips, ReadsFirst, AnswersFirst, Answered};
+ghost use Rattle.input.specs.Looked.{looked_at};
 
-use input::{fill, size};
+use input::{LOOKED_AT, fill, size};
 use std::io;
 use std::io::{Read, Write};
-
-// The most bytes of a book that are looked at.
-const INPUT: usize = 65536;
 
 fn least(a: usize, b: usize) -> usize
     ensures { result ≡ min a b }
@@ -43,8 +41,8 @@ fn skip<R: Read>(reader: &mut R, n: usize) -> io::Result<bool>
 
 // Reads the next book, as much of it as is looked at, to the front of the buffer, skips the rest of it, and answers how
 // much is looked at; none where the book is not all there.
-fn read_book<R: Read>(reader: &mut R, book: &mut [u8; INPUT]) -> io::Result<Option<usize>>
-    ensures bound { IfOk result (λ read. IfSome read (λ n. n ≤ 65536)) }
+fn read_book<R: Read>(reader: &mut R, book: &mut [u8; LOOKED_AT]) -> io::Result<Option<usize>>
+    ensures bound { IfOk result (λ read. IfSome read (λ n. n ≤ looked_at)) }
     ensures bytes { IfOk result (λ read. ReadsFirst
         (R.remaining reader.old)
         (R.remaining reader.new)
@@ -57,7 +55,7 @@ fn read_book<R: Read>(reader: &mut R, book: &mut [u8; INPUT]) -> io::Result<Opti
         return Ok(None);
     }
     let length = size(&head);
-    let kept = least(length, INPUT);
+    let kept = least(length, LOOKED_AT);
     let got = fill(reader, &mut book[..kept])?;
     if got < kept {
         return Ok(None);
@@ -78,7 +76,7 @@ fn answer_next<R: Read, W: Write>(reader: &mut R, out: &mut W) -> io::Result<boo
         (W.contents out.new)
         there) }
 {
-    let mut book = [0u8; INPUT];
+    let mut book = [0u8; LOOKED_AT];
     let read = read_book(reader, &mut book)?;
     let Some(kept) = read else {
         return Ok(false);

@@ -18,7 +18,7 @@ slice_range-put_mid a k n xs ys within fits =
     let same : (a + n) - a ≡ n = omega arith in
     let after = post_of a k xs in
     ap (take ((a + n) - a)) (drop_at (take a xs) (ys ++ after) a (length-take-le a xs within)) ∙ ap
-        (λ m. take m (ys ++ after)) same ∙ take-append-le n ys after fits
+    (λ m. take m (ys ++ after)) same ∙ take-append-le n ys after fits
 
 pub loop-done-preserved : goal.loop-done-preserved
 loop-done-preserved g c =
@@ -27,14 +27,16 @@ loop-done-preserved g c =
     let within = c.loop-done.invariant.0 in
     let part = slice_range-put_mid from room c.in_ok-n.n c.loop-done.into c.read.new.buf within c.in_ok-n.ensures.bound.0 in
     let joined = take_split from (from + c.in_ok-n.n) c.loop-done.into
-        (put_mid from room c.loop-done.into c.read.new.buf) (omega arith) (take-put_mid_below _ _ _ _ _ (le_refl _) within) in
-    (search rules, subst (Consumes _ _) (ap (λ l. take from c.loop-done.into ++ l) (sym part) ∙ joined)
-        (Consumes-trans _ _ _ _ _ c.loop-done.invariant.1 c.in_ok-n.ensures.bytes.0))
+    (put_mid from room c.loop-done.into c.read.new.buf) (omega arith) (take-put_mid_below _ _ _ _ _ (le_refl _) within) in (
+      search rules,
+      subst (Consumes _ _) (ap (λ l. take from c.loop-done.into ++ l) (sym part) ∙ joined)
+          (Consumes-trans _ _ _ _ _ c.loop-done.invariant.1 c.in_ok-n.ensures.bytes.0),
+    )
 
 pub returns-clause-bytes : goal.returns-clause-bytes
 returns-clause-bytes g c =
     fills_full _ _ _ _
-        (length-take-le _ _ c.loop-done.invariant.0 ∙ omega (arith, c.loop-done.invariant.0, c.loop-done-test.false)) c.loop-done.invariant.1
+    (length-take-le _ _ c.loop-done.invariant.0 ∙ omega (arith, c.loop-done.invariant.0, c.loop-done-test.false)) c.loop-done.invariant.1
 
 pub returns-then-n-eq0-clause-bytes : goal.returns-then-n-eq0-clause-bytes
 returns-then-n-eq0-clause-bytes g c =
@@ -44,6 +46,6 @@ returns-then-n-eq0-clause-bytes g c =
     let short : length (take from into) ≤ length into = search rules in
     let room : 0 < length c.read.new.buf = search rules in
     let same = ap (λ n. take from c.loop-done.into ++ take n c.read.new.buf) c.if-n-eq0.true ∙ append-nil _ ∙ sym
-        (take-put_mid_below _ _ _ _ _ (le_refl _) within) in
+    (take-put_mid_below _ _ _ _ _ (le_refl _) within) in
     let taken = subst (Consumes _ _) same (Consumes-trans _ _ _ _ _ c.loop-done.invariant.1 c.in_ok-n.ensures.bytes.0) in
     fills_end _ _ _ _ short taken (c.in_ok-n.ensures.bytes.1 c.if-n-eq0.true room)

@@ -11,7 +11,7 @@ returns-then-not-branch g c =
     let mid = g.W.Write.contents c.loop-turn.out in
     let new = g.W.Write.contents c.answer_next.new.out in
     sofar_all (g.R.Read.remaining c.args.reader.now) b left (g.W.Write.contents c.args.out.now) mid new
-        c.loop-turn.turn c.loop-turn.invariant
+    c.loop-turn.turn c.loop-turn.invariant
     (subst (λ there. AnswersFirst b left mid new there) c.if-not-branch.true c.in_ok-answer_next.ensures)
 
 pub loop-turn-preserved : goal.loop-turn-preserved
@@ -21,5 +21,5 @@ loop-turn-preserved g c =
     let mid = g.W.Write.contents c.loop-turn.out in
     let new = g.W.Write.contents c.answer_next.new.out in
     sofar_more (g.R.Read.remaining c.args.reader.now) b left (g.W.Write.contents c.args.out.now) mid new
-        c.loop-turn.turn c.loop-turn.invariant
+    c.loop-turn.turn c.loop-turn.invariant
     (subst (λ there. AnswersFirst b left mid new there) c.if-not-branch.false c.in_ok-answer_next.ensures)

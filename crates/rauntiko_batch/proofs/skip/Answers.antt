@@ -37,5 +37,5 @@ returns-then-got-step g c =
     let short : length read < step = omega (arith, c.in_ok-got.ensures.bound.1, c.if-got-step.true) in
     let within : done + step ≤ c.args.n = omega (arith, c.loop-left.invariant.1, fits) in
     skip_short (g.R.Read.remaining c.args.reader.now) (g.R.Read.remaining c.loop-left.reader)
-        (g.R.Read.remaining c.fill.new.reader) _ done step _ c.args.n read c.loop-left.invariant.2
+    (g.R.Read.remaining c.fill.new.reader) _ done step _ c.args.n read c.loop-left.invariant.2
     c.in_ok-got.ensures.bytes room short within
