@@ -58,10 +58,10 @@ overflow_add-answers c = omega (arith, c.requires.2)
 pub returns-then-answers-rewriting : goal.returns-then-answers-rewriting
 returns-then-answers-rewriting c =
     let back_4 = c.before.before.before.before in (
-  fate_long c.args.answers c.requires.2 c.requires.0 _ _ (first back_4) c.if-member_covering-filled.false
-      (omega (arith, question_count stored c.args.rewriting.now, c.if-answers-rewriting.true)),
-  tt,
-)
+      fate_long c.args.answers c.requires.2 c.requires.0 _ _ (first back_4) c.if-member_covering-filled.false
+          (omega (arith, question_count stored c.args.rewriting.now, c.if-answers-rewriting.true)),
+      tt,
+    )
 
 pub returns-then-count-ge-ROOM : goal.returns-then-count-ge-ROOM
 returns-then-count-ge-ROOM c =
@@ -80,7 +80,7 @@ append-len-requires c =
     let kept = c.remove_covered-kept.ensures in
     let room =
     room_left c.args.answers c.requires.2 c.requires.0 _ _ (first back_12) c.if-member_covering-filled.false
-        (short back_6) kept.0 kept.1 (fits back_6)
+    (short back_6) kept.0 kept.1 (fits back_6)
     c.if-count-ge-ROOM.false in
     (c.requires.1, omega (arith, room, begun_long stored c.args.rewriting.now, kept.0.held.size))
 

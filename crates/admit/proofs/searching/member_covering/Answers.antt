@@ -177,9 +177,11 @@ returns-then-work-at-eq0 c =
     let e =
     first_hit covers (question_of stored a.rewriting.now) a.work.now at _ _ c.if-count-i.false (covers_is _ _ ∙ ap is_some one) in
     let f =
-    by_hit (question_of stored a.rewriting.now) a.work.now at _ _ c.if-count-i.false (ap is_some one) in
-    (omega (arith, c.members.invariant.2, e), c.members.invariant.3 ∙ sym (nowhere_map 96) ∙ ap (map_or 96)
-        (sym (c.members.invariant.4 ∙ f ∙ one)))
+    by_hit (question_of stored a.rewriting.now) a.work.now at _ _ c.if-count-i.false (ap is_some one) in (
+      omega (arith, c.members.invariant.2, e),
+      c.members.invariant.3 ∙ sym (nowhere_map 96) ∙ ap (map_or 96)
+          (sym (c.members.invariant.4 ∙ f ∙ one)),
+    )
 
 pub returns-then-covers_on : goal.returns-then-covers_on
 returns-then-covers_on c =

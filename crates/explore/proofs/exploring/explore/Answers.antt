@@ -96,7 +96,7 @@ covers_is c b h = ap (λ (Q : Question). covers Q (member_of c.before.before.bef
 abbrev Became : After-admit → Fate → Type 0
 Became c r =
     FateIs (limits_of c.args.book.now) c.loop-room.work c.loop-room.held
-        (given c.before.before.before.before.before).rewriting c.admit-fate.new.work r
+    (given c.before.before.before.before.before).rewriting c.admit-fate.new.work r
 
 fate : (c : After-admit) → Became c c.admit-fate.result
 fate c =
@@ -225,14 +225,14 @@ loop-room-preserved-in-Dropped c =
     let back_4 = c.before.before.before.before in
     let back_12 = back_4.before.before.before.before.before.before.before.before in
     let back_16 = back_12.before.before.before.before in (
-  onward_passed _ _ _ _ _ c.loop-room.invariant.0 (given back_12) (onward back_4)
-      (subst
-      (λ (r : Rule).
-      GoesOn r (member_of back_16) (held_from c.admit-fate.new.work first_at c.loop-room.held.count)
-      c.next_rewriting-taken.result.choice c.after_drop-resumed.result.from)
-      (sym (own_rule back_12).1) c.after_drop-resumed.ensures),
-  dropped_sets back_4,
-)
+      onward_passed _ _ _ _ _ c.loop-room.invariant.0 (given back_12) (onward back_4)
+          (subst
+          (λ (r : Rule).
+          GoesOn r (member_of back_16) (held_from c.admit-fate.new.work first_at c.loop-room.held.count)
+          c.next_rewriting-taken.result.choice c.after_drop-resumed.result.from)
+          (sym (own_rule back_12).1) c.after_drop-resumed.ensures),
+      dropped_sets back_4,
+    )
 
 pub covers_sound-stops-requires : goal.covers_sound-stops-requires
 covers_sound-stops-requires c = (
@@ -248,10 +248,10 @@ pub returns-then-stops : goal.returns-then-stops
 returns-then-stops c =
     let back_5 = c.before.before.before.before.before in
     let back_13 = back_5.before.before.before.before.before.before.before.before in (
-  onward_stopped _ _ _ _ _ c.loop-room.invariant.0 (given back_13) _ _ (appended back_5)
-      (covers_is back_13 _ c.covers_sound-stops.ensures ∙ c.if-stops.true),
-  appended_sets back_5,
-)
+      onward_stopped _ _ _ _ _ c.loop-room.invariant.0 (given back_13) _ _ (appended back_5)
+          (covers_is back_13 _ c.covers_sound-stops.ensures ∙ c.if-stops.true),
+      appended_sets back_5,
+    )
 
 pub loop-room-smaller : goal.loop-room-smaller
 loop-room-smaller c =
@@ -262,10 +262,10 @@ pub loop-room-preserved : goal.loop-room-preserved
 loop-room-preserved c =
     let back_5 = c.before.before.before.before.before in
     let back_13 = back_5.before.before.before.before.before.before.before.before in (
-  onward_appended _ _ _ _ _ c.loop-room.invariant.0 (given back_13) _ _ (appended back_5)
-      (covers_is back_13 _ c.covers_sound-stops.ensures ∙ c.if-stops.false),
-  appended_sets back_5,
-)
+      onward_appended _ _ _ _ _ c.loop-room.invariant.0 (given back_13) _ _ (appended back_5)
+          (covers_is back_13 _ c.covers_sound-stops.ensures ∙ c.if-stops.false),
+      appended_sets back_5,
+    )
 
 pub shape_of-work-in-Refused : goal.shape_of-work-in-Refused
 shape_of-work-in-Refused c =
@@ -275,7 +275,7 @@ pub returns-in-Refused : goal.returns-in-Refused
 returns-in-Refused c =
     let back_4 = c.before.before.before.before in
     let back_9 = back_4.before.before.before.before.before in (
-  onward_refused _ _ _ _ _ c.loop-room.invariant.0 (given back_9) _
-      (subst (Became back_4) c.in-Refused.is (fate back_4)),
-  tt,
-)
+      onward_refused _ _ _ _ _ c.loop-room.invariant.0 (given back_9) _
+          (subst (Became back_4) c.in-Refused.is (fate back_4)),
+      tt,
+    )

@@ -44,7 +44,7 @@ rule_at-parts-requires c =
 pub relations_at-requires : goal.relations_at-requires
 relations_at-requires c =
     (parts_in c.args.book.now c.requires.0 c.args.starts.now c.requires.2 _ (within c.before.before.before)
-        c.requires.3 _ c.rule_at-parts.ensures
+    c.requires.3 _ c.rule_at-parts.ensures
     ).head.fits
 
 pub offset_bounds-sets-k : goal.offset_bounds-sets-k
@@ -86,9 +86,9 @@ loop-k-preserved c =
     let one = set l.sets k v in
     let size : length one ≡ 64 = length-set l.sets k v ∙ l.invariant.1 in
     let inside : k < 32 = omega
-        (arith, within c.before.before.before.before.before.before, few c.before.before.before.before.before.before) in
+    (arith, within c.before.before.before.before.before.before, few c.before.before.before.before.before.before) in
     let parts = parts_are B c.requires.0 c.args.starts.now c.requires.2 _
-        (within c.before.before.before.before.before.before) c.requires.3 _ c.rule_at-parts.ensures in
+    (within c.before.before.before.before.before.before) c.requires.3 _ c.rule_at-parts.ensures in
     let rule = c.rule_at-parts.result in
     let heads = c.relations_at.ensures ∙ head_set B c.requires.3 (rule_start B k) rule parts in
     let unknowns = c.has_unknowns.ensures ∙ unknowns_of B c.requires.3 (rule_start B k) rule parts in

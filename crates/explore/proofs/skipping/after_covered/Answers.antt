@@ -38,9 +38,15 @@ pub loop-p-init : goal.loop-p-init
 loop-p-init c = (omega arith, goes_next _ _ _ _)
 
 pub prefix_covered-requires : goal.prefix_covered-requires
-prefix_covered-requires c =
-    (c.requires.0, c.requires.1, c.requires.2, c.requires.3, omega (arith, c.loop-p.invariant.0, c.loop-p-test.true),
-        c.requires.4, c.requires.5)
+prefix_covered-requires c = (
+  c.requires.0,
+  c.requires.1,
+  c.requires.2,
+  c.requires.3,
+  omega (arith, c.loop-p.invariant.0, c.loop-p-test.true),
+  c.requires.4,
+  c.requires.5,
+)
 
 pub returns-then-not-prefix_covered : goal.returns-then-not-prefix_covered
 returns-then-not-prefix_covered c = c.loop-p.invariant.1

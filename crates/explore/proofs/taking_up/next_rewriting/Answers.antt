@@ -51,7 +51,7 @@ start_of c =
 found : (c : After-next_by)
     → FoundIs
     (next apart
-        (rule_at (book_of_here c.before.before.before.before.before) (rule_start (book_of_here c.before.before.before.before.before) c.loop-rule.rule))
+    (rule_at (book_of_here c.before.before.before.before.before) (rule_start (book_of_here c.before.before.before.before.before) c.loop-rule.rule))
     (member_of c.before.before.before.before.before) c.loop-rule.choice)
     c.loop-rule.out c.next_by-found.result c.next_by-found.new.out
 found c =

@@ -154,4 +154,4 @@ shape_of-work c = sized c.before.before.before
 pub returns : goal.returns
 returns c =
     outcome_complete (book_of_here c.before.before.before) c.loop-filled.invariant.0
-        (allowed_few (book_of_here c.before.before.before) c.requires.0) c.loop-filled-test.false
+    (allowed_few (book_of_here c.before.before.before) c.requires.0) c.loop-filled-test.false
