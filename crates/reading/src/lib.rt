@@ -2,6 +2,9 @@
 // declared here are the two answers that the definitions speak of.
 #![tactic(auto)]
 
+ghost use Rattle.std.specs.Prelude.{◌≡◌};
+ghost use Rattle.reading.specs.Told.{number_of};
+
 // The words of a book's header, in their order: the tenth tells how many places an atom has, which are four in a book
 // that has nine.
 #[derive(Clone, Copy)]
@@ -22,5 +25,50 @@ pub struct Header {
 #[derive(Clone, Copy)]
 pub struct Refusal {
     pub number: u8,
+    pub place: usize,
+}
+
+// Why nothing is written, in the order of 01's numbers: 1 to 11, and 13.
+#[derive(Clone, Copy, Debug, PartialEq, Eq)]
+pub enum Reason {
+    ShortOutput,
+    ShortBook,
+    OutsideTable,
+    WrongOffset,
+    WrongRelation,
+    WrongRule,
+    WrongByte,
+    TooLong,
+    NoRoom,
+    NoneLeft,
+    LooseAnswer,
+    NoOldForm,
+}
+
+impl From<Reason> for u8 {
+    ghost from_gives = { λ reason n. n ≡ number_of reason };
+
+    fn from(reason: Reason) -> u8 {
+        match reason {
+            Reason::ShortOutput => 1,
+            Reason::ShortBook => 2,
+            Reason::OutsideTable => 3,
+            Reason::WrongOffset => 4,
+            Reason::WrongRelation => 5,
+            Reason::WrongRule => 6,
+            Reason::WrongByte => 7,
+            Reason::TooLong => 8,
+            Reason::NoRoom => 9,
+            Reason::NoneLeft => 10,
+            Reason::LooseAnswer => 11,
+            Reason::NoOldForm => 13,
+        }
+    }
+}
+
+// A refusal: why, and the place.
+#[derive(Clone, Copy, Debug, PartialEq, Eq)]
+pub struct Refused {
+    pub reason: Reason,
     pub place: usize,
 }
