@@ -1,5 +1,6 @@
 -- What the functions of this crate cite beside the laws of `covering`: atoms copied one after the other; a
--- record copied; sets of relations.
+-- record copied; sets of relations; looking for a term.
 pub mod OneByOne
 pub mod Copied
 pub mod Among
+pub mod Finding

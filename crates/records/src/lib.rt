@@ -6,10 +6,12 @@
 mod copying;
 mod record;
 mod sets;
+mod standing;
 
 pub use copying::{copy_atoms, copy_record, widened};
 pub use record::{answers, is_record, width};
 pub use sets::{are_among, is_part, relations, relations_at};
+pub use standing::stands_in;
 
 // The places of an atom inside.
 pub const PLACES: usize = 6;
