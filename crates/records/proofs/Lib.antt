@@ -4,3 +4,4 @@ pub mod OneByOne
 pub mod Copied
 pub mod Among
 pub mod Finding
+pub mod Holding

@@ -4,11 +4,13 @@
 #![tactic(auto)]
 
 mod copying;
+mod held;
 mod record;
 mod sets;
 mod standing;
 
 pub use copying::{copy_atoms, copy_record, widened};
+pub use held::{Held, Record};
 pub use record::{answers, is_record, width};
 pub use sets::{are_among, is_part, relations, relations_at};
 pub use standing::stands_in;
