@@ -6,18 +6,26 @@ use Rattle.cover.proofs.desk.kept.Reads as kept-reads
 use Rattle.cover.proofs.desk.keep.Reads as keep-reads
 use mathlib.Core.Bool.{false}
 use Rattle.cover.specs.HeldMap.{said}
+use Rattle.cover.specs.Told.{number_told, map_told, which_told, kept_map_told}
 use Rattle.cover.proofs.Maps.{said_yes}
+use Rattle.cover.proofs.Told.{answer_same, choice_same}
 use Rattle.cover.proofs.search.covers_sound.Reads as covers-sound-reads
 use Rattle.cover.proofs.search.covers_on.Reads as covers-on-reads
 
--- the number and the map's bytes
+-- the answer, with its number and its map
 pub covers_determined : (κs : _) (a : _) (r s : _) (x y : _) → covers-reads.Learnt κs a r x
-    → covers-reads.Learnt κs a s y → (r.number ≡ s.number) × (r.map ≡ s.map)
-covers_determined κs a r s x y p q = (p.0 ∙ sym q.0, p.1 ∙ sym q.1)
+    → covers-reads.Learnt κs a s y → (number_told r ≡ number_told s) × (map_told r ≡ map_told s) × (r ≡ s)
+covers_determined κs a r s x y p q =
+    let number = p.0 ∙ sym q.0 in
+    let map = p.1 ∙ sym q.1 in
+    (number, map, answer_same r s number map)
 
 pub kept_determined : (κs : _) (a : _) (r s : _) (x y : _) → kept-reads.Learnt κs a r x → kept-reads.Learnt κs a s y
-    → (r.which ≡ s.which) × (r.map ≡ s.map)
-kept_determined κs a r s x y p q = (p.0 ∙ sym q.0, p.1 ∙ sym q.1)
+    → (which_told r ≡ which_told s) × (kept_map_told r ≡ kept_map_told s) × (r ≡ s)
+kept_determined κs a r s x y p q =
+    let which = p.0 ∙ sym q.0 in
+    let map = p.1 ∙ sym q.1 in
+    (which, map, choice_same r s which map)
 
 -- the bytes handed back, the buffer that they lie in, and where in it
 pub keep_determined : (κs : _) (a : _) (r s : _) (x y : _) → keep-reads.Learnt κs a r x → keep-reads.Learnt κs a s y

@@ -8,5 +8,7 @@ pub mod Ahead
 pub mod SearchSteps
 pub mod Turns
 pub mod Leads
+-- the desk's answers
+pub mod Told
 -- what each contract determines
 pub mod Determined

@@ -7,41 +7,34 @@
 
 mod meeting;
 
-ghost use Rattle.std.specs.Prelude.{◌≡◌, length, IfOk};
-ghost use Rattle.desk.specs.Got.{Within};
+ghost use Rattle.std.specs.Prelude.{◌≡◌, ◌≤◌, length, IfOk, IfSome};
 
 use crate::meeting::tell_map;
-use input::{fill, size, wide};
+use cover::Which;
+use input::{fill, size};
 use std::io;
 use std::io::{Read, Write};
 
 // The most bytes of a record that are read.
 const RECORD: usize = 4096;
 
-// A record that was read, and its length; or the end of the input.
-#[derive(Drop)]
-enum Got {
-    Record(usize),
-    End,
-}
-
-// Reads a record to the front of the buffer.
-fn read_record<R: Read>(reader: &mut R, buffer: &mut [u8]) -> io::Result<Got>
-    ensures within { IfOk result (λ got. Within (length buffer.new) got) }
+// Reads a record to the front of the buffer, and answers its length; none at the end of the input.
+fn read_record<R: Read>(reader: &mut R, buffer: &mut [u8]) -> io::Result<Option<usize>>
+    ensures within { IfOk result (λ got. IfSome got (λ n. n ≤ length buffer.new)) }
     ensures len { length buffer.new ≡ length buffer.old }
 {
     let mut head = [0u8; 4];
     if fill(reader, &mut head)? < 4 {
-        return Ok(Got::End);
+        return Ok(None);
     }
     let n = size(&head);
     if buffer.len() < n {
-        return Ok(Got::End);
+        return Ok(None);
     }
     if fill(reader, &mut buffer[..n])? < n {
-        return Ok(Got::End);
+        return Ok(None);
     }
-    Ok(Got::Record(n))
+    Ok(Some(n))
 }
 
 // Writes which record is kept: the first wherever the bytes are its own, since of two that are the same it is the one.
@@ -52,7 +45,7 @@ fn tell_kept<'a, W: Write>(
     w: usize,
 ) -> io::Result<()> {
     let kept = cover::keep(first, second, w);
-    if kept.len() == 0 {
+    if kept.is_empty() {
         return out.write_all(b"none");
     }
     if kept == first {
@@ -63,16 +56,13 @@ fn tell_kept<'a, W: Write>(
 
 // Writes by which map the record that is kept covers the other.
 fn tell_why<W: Write>(out: &mut W, first: &[u8], second: &[u8], w: usize) -> io::Result<()> {
-    let kept = cover::kept(first, second, w);
-    let map = kept.map;
-    let which = kept.which;
-    if which == 1 {
-        tell_map(out, first, second, w, &map)?;
+    let Some(kept) = cover::kept(first, second, w) else {
+        return Ok(());
+    };
+    match kept.which {
+        Which::First => tell_map(out, first, second, w, &kept.map),
+        Which::Second => tell_map(out, second, first, w, &kept.map),
     }
-    if which == 2 {
-        tell_map(out, second, first, w, &map)?;
-    }
-    Ok(())
 }
 
 // Answers a pair.
@@ -82,8 +72,7 @@ fn answer<'a, W: Write>(
     second: &'a [u8],
     w: usize,
 ) -> io::Result<()> {
-    let covered = cover::covers(first, second, w);
-    let number = covered.number;
+    let number = cover::number(&cover::covers(first, second, w));
     write!(out, "covers {number} keep ")?;
     tell_kept(out, first, second, w)?;
     out.write_all(b"\n")?;
@@ -98,16 +87,14 @@ fn answer_next<R: Read, W: Write>(reader: &mut R, out: &mut W) -> io::Result<boo
         return Ok(false);
     }
     let mut first = [0u8; RECORD];
-    let read = read_record(reader, &mut first)?;
-    let Got::Record(n) = read else {
+    let Some(n) = read_record(reader, &mut first)? else {
         return Ok(false);
     };
     let mut second = [0u8; RECORD];
-    let read_second = read_record(reader, &mut second)?;
-    let Got::Record(m) = read_second else {
+    let Some(m) = read_record(reader, &mut second)? else {
         return Ok(false);
     };
-    answer(out, &first[..n], &second[..m], wide(places[0]))?;
+    answer(out, &first[..n], &second[..m], usize::from(places[0]))?;
     out.flush()?;
     Ok(true)
 }

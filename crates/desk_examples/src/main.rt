@@ -28,8 +28,7 @@ pub fn show<'a, W: Write>(
     second: &'a [u8],
 ) -> io::Result<()> {
     out.write_all(name)?;
-    let covered = cover::covers(first, second, 4);
-    let answer = covered.number;
+    let answer = cover::number(&cover::covers(first, second, 4));
     write!(out, ": {answer}, keeps")?;
     numbers(out, cover::keep(first, second, 4))?;
     out.write_all(b"\n")

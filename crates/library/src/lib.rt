@@ -9,6 +9,8 @@ ghost use Rattle.reading.specs.Copy.{CopiesNew, CopiesOld};
 ghost use Rattle.exploration.specs.Answer.{Answers};
 ghost use Rattle.library.specs.Lent.{lent};
 
+use cover::MAP;
+
 // The union of a book's question, or why there is none; its place.
 #[unsafe(no_mangle)]
 pub extern "C" fn rauntiko_run(book: &[u8], out: &mut [u8], place: &mut usize) -> u8
@@ -85,9 +87,11 @@ pub extern "C" fn rauntiko_covers(first: &[u8], second: &[u8], width: usize, map
         ≡ lent (covers_map width first.now second.now) map.old) }
 {
     let covered = cover::covers(first, second, width);
-    let found = covered.map;
-    lend(&found, map);
-    covered.number
+    match &covered {
+        Ok(Some(found)) => lend(found, map),
+        _ => lend(&[255u8; MAP], map),
+    }
+    cover::number(&covered)
 }
 
 // Which of two records to keep: 1 the first, where it covers the second; 2 the second, where it alone covers; else 0;
@@ -98,8 +102,10 @@ pub extern "C" fn rauntiko_kept(first: &[u8], second: &[u8], width: usize, map: 
         × (map.new
         ≡ lent (kept_map width first.now second.now) map.old) }
 {
-    let kept = cover::kept(first, second, width);
-    let found = kept.map;
-    lend(&found, map);
-    kept.which
+    let Some(kept) = cover::kept(first, second, width) else {
+        lend(&[255u8; MAP], map);
+        return 0;
+    };
+    lend(&kept.map, map);
+    u8::from(kept.which)
 }
