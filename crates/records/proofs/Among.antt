@@ -1,27 +1,29 @@
 -- Laws of sets of relations (`specs/Relations`): a set has what was joined to it, so that a question some of whose
 -- relations are not in the set of another's does not cover it. Assumes nothing.
 use mathlib.Core.Path.{◌≡◌, refl, sym, ◌∙◌, ap, ap₂, subst}
-use mathlib.Core.Bool.{true, false}
+use mathlib.Core.Bool.{false}
 use mathlib.Core.List.Memᴰ
 use mathlib.Core.List.{List, [], ◌∷◌}
-use Prim.Native.Nat.{ℕ, suc, zero, ◌+◌, ◌-◌, ◌*◌, ◌/◌, ◌%◌, ◌^◌, ◌<◌, max, suc-le-suc}
+use Prim.Native.Nat.{ℕ, suc, zero, ◌+◌, ◌*◌, ◌/◌, ◌%◌, ◌^◌, ◌<◌, ◌≤◌, max, suc-le-suc}
 use native.Mathlib.Omega.{arith}
 use native.Mathlib.Nat.{div_self, mod-lt, one-mul, zero-div, add-zero, div-add-mod', max-zero, zero-max, suc-max-suc, max-le}
 use native.Mathlib.Nat.{le_of_suc-le-suc}
 use lib.Arith.{bin_ind, digits_div, digits_mod}
-use lib.Dec.{T, eqb→eq}
+use lib.Dec.{T, eqb, eqb→eq}
 use lib.Bits.{bit_or, bit_and, or_step, or_block, or_shr, or_mod, or_comm, and_shr, and_mod}
 use lib.ListN.{get_or}
 use lib.Pow.{pow_pos, shl_exact, split}
-use borrow.Author.Tests.{eq-eqb, ne_eqb}
+use borrow.Author.Tests.{eq-eqb}
 use Rattle.covering.specs.Lists.{◌∈◌}
 use Rattle.covering.specs.Term.{Atom, Question}
 use Rattle.covering.specs.Search.{covers}
-use Rattle.covering.specs.Record.{Layout, size, atom_at, atoms_at}
-use Rattle.covering.proofs.Places.{atoms_none, atoms_more, relation_at}
-use Rattle.covering.proofs.EachAtom.{each_none, each_fails, each_passes}
+use Rattle.covering.specs.Record.{stored, atom_at, atoms_at}
+use Rattle.covering.proofs.Places.{relation_at}
 use Rattle.covering.proofs.Relations.{relations_first}
 use Rattle.covering.proofs.Tests.{true→T, no→false, false→no, fst_of, snd_of}
+use Rattle.std.specs.List.{list_all, range_with_len}
+use Rattle.records.proofs.Each.{atoms_all}
+use Rattle.records.proofs.Onward.{from, from_more, from_none}
 use Rattle.records.specs.Relations.{digit_of, is_in, joined_to, relations_of, are_in, is_part}
 
 -- digit k of two numbers' bits together, and that it is 1 where that of the first is
@@ -169,29 +171,21 @@ unfolding digit_of
 digit_shifted n =
     shl_exact 1 (n % 64) 64 (omega arith) (omega arith) ∙ one-mul (2 ^ (n % 64))
 
--- the relations of n atoms, the first of them taken: joined to a set, and looked for in it
-module _ (L : Layout) (B : List ℕ) (i n s : ℕ) where
-  pub joined_none : n ≡ 0 → joined_to s (atoms_at L B i n) ≡ s
+-- the relations of n atoms, of which k are passed: joined to a set
+module _ (B : List ℕ) (i n s k : ℕ) where
+  pub joined_more : k < n
+      → joined_to s (from stored B i n k)
+      ≡ joined_to (bit_or s (1 * 2 ^ (get_or B (i + k * 7) 0 % 64) % 2 ^ 64)) (from stored B i n (k + 1))
   unfolding joined_to
-  joined_none e = rw (atoms_none L B i n e)
+  joined_more lt = rw (from_more stored B i n k lt, relation_at stored B, digit_shifted (get_or B (i + k * 7) 0))
 
-  pub joined_more : 0 < n
-      → joined_to s (atoms_at L B i n)
-      ≡ joined_to (bit_or s (1 * 2 ^ (get_or B i 0 % 64) % 2 ^ 64)) (atoms_at L B (i + size L) (n - 1))
+  pub joined_none : n ≤ k → joined_to s (from stored B i n k) ≡ s
   unfolding joined_to
-  joined_more h = rw (atoms_more L B i n h, relation_at L B i, digit_shifted (get_or B i 0))
+  joined_none h = rw (from_none stored B i n k h)
 
-  abbrev digit : ℕ
-  digit = s / 2 ^ (get_or B i 0 % 64) % 2
-
-  pub in_none : n ≡ 0 → are_in s (atoms_at L B i n) ≡ true
-  unfolding are_in
-  in_none e = each_none L B i n (λ a. is_in s a.rel) e
-
-  pub in_fails : 0 < n → (digit ≡ 1 → ⊥) → are_in s (atoms_at L B i n) ≡ false
-  unfolding are_in is_in digit_of atom_at
-  in_fails h e = each_fails L B i n (λ a. is_in s a.rel) h (ne_eqb digit 1 e)
-
-  pub in_passes : 0 < n → digit ≡ 1 → are_in s (atoms_at L B i n) ≡ are_in s (atoms_at L B (i + size L) (n - 1))
-  unfolding are_in is_in digit_of atom_at
-  in_passes h e = each_passes L B i n (λ a. is_in s a.rel) h (eq-eqb digit 1 e)
+-- and whether each is in it
+pub each_in : (B : List ℕ) (i n s : ℕ)
+    → list_all (λ k. eqb (s / 2 ^ (get_or B (i + k * 7) 0 % 64) % 2) 1) (range_with_len 0 n)
+    ≡ are_in s (atoms_at stored B i n)
+unfolding are_in is_in digit_of atom_at
+each_in B i n s = atoms_all stored B i n (λ a. is_in s a.rel)

@@ -6,23 +6,12 @@ ghost use Rattle.covering.specs.Term.{Atom};
 ghost use Rattle.covering.specs.Asking.{joined};
 ghost use Rattle.covering.specs.Record.{desk, holding, stored, atom_at, atoms_at, is_atom, atom_bytes, asking_of, is_desk_record};
 ghost use Rattle.covering.specs.Record.{question_of, SoundRecord};
-ghost use Rattle.covering.specs.Buffer.{AtomsIn, held_in, record_room, place_or};
+ghost use Rattle.covering.specs.Buffer.{AtomsIn, held_in, record_room};
 ghost use Rattle.covering.specs.Put.{Puts};
 
 use crate::PLACES;
 use crate::record::{answers, width};
 use covering::RECORD;
-
-// What stands in place j of the w from i on, 255 where there are not so many.
-fn place_or_none(from: &[u8], i: usize, w: usize, j: usize) -> u8
-    requires { i + w ≤ length from.now }
-    ensures { result ≡ place_or from.now i w j }
-{
-    if j < w {
-        return from[i + j];
-    }
-    255
-}
 
 // Copies the atom of from at i, which has w places, to `at`, where it gets v, and answers where it ends. The relation's
 // byte goes as a place does.
@@ -38,11 +27,9 @@ fn copy_atom(from: &[u8], i: usize, w: usize, to: &mut [u8], at: usize, v: usize
         result
         to.new }
 {
-    let mut j = 0;
-    while j <= v {
-        to[at + j] = place_or_none(from, i, 1 + w, j);
-        j += 1;
-    }
+    let used = 1 + w.min(v);
+    to[at..at + used].copy_from_slice(&from[i..i + used]);
+    to[at + used..at + 1 + v].fill(255);
     at + 1 + v
 }
 
@@ -67,13 +54,9 @@ pub fn copy_atoms(
         result
         to.new }
 {
-    let mut next = i;
     let mut end = at;
-    let mut left = n;
-    while 0 < left {
-        end = copy_atom(from, next, w, to, end, v);
-        next += 1 + w;
-        left -= 1;
+    for k in 0..n {
+        end = copy_atom(from, i + k * (1 + w), w, to, end, v);
     }
     end
 }
@@ -86,7 +69,7 @@ pub fn widened(s: &[u8], w: usize) -> [u8; RECORD]
     let n = answers(s) + s[0];
     let mut held = [255u8; RECORD];
     held[0] = n;
-    copy_atoms(s, 1, n as usize, w, &mut held, 1, PLACES);
+    copy_atoms(s, 1, usize::from(n), w, &mut held, 1, PLACES);
     held
 }
 
@@ -97,10 +80,6 @@ pub fn copy_record(member: &[u8]) -> [u8; RECORD]
 {
     let width = width(member[0]);
     let mut copy = [255u8; RECORD];
-    let mut i = 0;
-    while i < width {
-        copy[i] = member[i];
-        i += 1;
-    }
+    copy[..width].copy_from_slice(&member[..width]);
     copy
 }

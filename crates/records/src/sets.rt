@@ -10,22 +10,19 @@ pub fn relations_at(s: &[u8], i: usize, n: usize) -> u64
     ensures { result ≡ relations_of (atoms_at stored s.now i n) }
 {
     let mut set = 0u64;
-    let mut at = i;
-    let mut more = n;
-    while 0 < more {
-        set |= 1u64 << (s[at] % 64);
-        at += 7;
-        more -= 1;
+    for k in 0..n {
+        set |= 1u64 << (s[i + k * 7] % 64);
     }
     set
 }
 
 // The set of the record's relations.
+#[tactic(auto, unfolding(covering::specs::Record::question_of))]
 pub fn relations(s: &[u8]) -> u64
     requires { SoundRecord stored s.now }
     ensures { result ≡ relations_of (question_of stored s.now) }
 {
-    relations_at(s, 1, s[0] as usize)
+    relations_at(s, 1, usize::from(s[0]))
 }
 
 // Whether all relations of the record are in the set.
@@ -33,19 +30,11 @@ pub fn are_among(s: &[u8], set: u64) -> bool
     requires { SoundRecord stored s.now }
     ensures { result ≡ are_in set (question_of stored s.now) }
 {
-    let mut at = 1;
-    let mut more = s[0];
-    while 0 < more {
-        if (set >> (s[at] % 64)) % 2 != 1 {
-            return false;
-        }
-        at += 7;
-        more -= 1;
-    }
-    true
+    (0..usize::from(s[0])).all(|k| (set >> (s[1 + k * 7] % 64)) % 2 == 1)
 }
 
 // Whether every relation of the set s is in the set t.
+#[tactic(auto, unfolding(crate::specs::Relations::is_part))]
 pub fn is_part(s: u64, t: u64) -> bool
     ensures { result ≡ is_part s t }
 {

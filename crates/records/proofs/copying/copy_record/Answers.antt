@@ -1,38 +1,23 @@
--- `records::copying::copy_record` meets its contract. The loop's invariant: the record's bytes passed are copied. The
--- measure is the number of bytes left.
-use borrow.Author.Rules.{rules}
+-- `records::copying::copy_record` meets its contract: the record's bytes are copied over the first of those of 255.
 use native.Mathlib.Omega.{arith}
 use native.Mathlib.Nat.{zero-add}
-use mathlib.Core.Path.{◌≡◌, refl, ap, ◌∙◌}
-use mathlib.Core.List.{List}
+use mathlib.Core.Path.{ap, sym, ◌∙◌}
+use mathlib.Core.List.{List, ◌++◌}
 use Prim.Native.Nat.{ℕ}
-use lib.ListN.{set, length-set, get_or, replicate}
-use lib.Seq.{paste, paste-zero}
-use Rattle.covering.specs.Record.{stored, width}
+use lib.ListN.{take, drop, replicate}
+use lib.Seq.{paste}
+use Rattle.covering.specs.Record.{stored}
 use Rattle.covering.specs.Buffer.{record_room}
 use Rattle.covering.proofs.RoundTrip.{stored_apart}
 use Rattle.covering.proofs.Padded.{begun_held}
-use Rattle.covering.proofs.Slices.{paste_more}
 use Rattle.records.proofs.copying.copy_record.Goals as goal
-
-pub loop-i-init : goal.loop-i-init
-loop-i-init c = (search rules, refl, paste-zero (replicate record_room 255) 0 c.args.member.now)
-
-pub loop-i-preserved : goal.loop-i-preserved
-loop-i-preserved c =
-    let i = c.loop-i.i in
-    let B = c.args.member.now in (
-      search rules,
-      simp length-set (omega arith),
-      ap (λ (w : List ℕ). set w i (get_or B i 0)) c.loop-i.invariant.2
-          ∙ paste_more (replicate record_room 255) 0 B i i (zero-add i) (search rules) (search rules),
-    )
 
 pub returns : goal.returns
 returns c =
     let B = c.args.member.now in
-    let end : c.loop-i.i ≡ width stored (get_or B 0 0) = omega (arith, c.width-width.ensures) in
-    c.loop-i.invariant.2
-    ∙ ap (paste (replicate record_room 255) 0 B) end
-    ∙ begun_held stored B stored_apart c.requires record_room
-    (omega (arith, c.requires.most))
+    let w = c.width-width.result in
+    let d : List ℕ = replicate record_room 255 in
+    ap (λ (l : List ℕ). l ++ drop w d) c.copy_from_slice.ensures.after
+    ∙ ap (λ (k : ℕ). take w B ++ drop k d) (sym (zero-add w))
+    ∙ ap (paste d 0 B) c.width-width.ensures
+    ∙ begun_held stored B stored_apart c.requires record_room (omega (arith, c.requires.most))

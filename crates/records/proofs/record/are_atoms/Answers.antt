@@ -1,52 +1,17 @@
--- `records::record::are_atoms` meets its contract. The loop's invariant: all are atoms exactly where those from here on
--- are. The measure is their number.
+-- `records::record::are_atoms` meets its contract: each is an atom.
+use Rattle.std.proofs.Common.{rules, tests}
 use native.Mathlib.Omega.{arith}
-use mathlib.Core.Path.{◌≡◌, refl, sym, ◌∙◌}
-use Prim.Native.Nat.{◌+◌, ◌*◌, ◌-◌}
-use Rattle.covering.specs.Record.{desk}
-use Rattle.covering.proofs.Bytes.{are_none, are_fails, are_passes}
-use Rattle.records.proofs.OneByOne.{first_size}
-use Rattle.records.proofs.record.are_atoms.Lts as lts
-use Rattle.records.proofs.record.are_atoms.Reads as reads
-use Rattle.records.proofs.record.are_atoms.Tie as tie
+use mathlib.Core.Path.{◌∙◌}
+use Prim.Native.Nat.{◌+◌, ◌*◌}
+use Rattle.std.proofs.lemmas.Iterator.{YieldsList-from_range}
+use Rattle.std.proofs.lemmas.Iterator.Search.{all_from_yields_List}
+use Rattle.covering.specs.Record.{desk, is_atom}
+use Rattle.records.proofs.Each.{atoms_are}
 use Rattle.records.proofs.record.are_atoms.Goals as goal
 
-abbrev Else1 : Type 0
-Else1 = lts.Else1 tie.the-claims reads.Pre reads.Post goal.the-invariant-loop-left goal.the-decreases-loop-left
-
--- the atom that was judged, within the bytes
-within : (c : Else1)
-    → c.loop-left.left * (1 + c.args.w)
-    ≡ (1 + c.args.w)
-    + (c.loop-left.left - 1) * (1 + c.args.w)
-within c = first_size _ _ c.loop-left-test.true
-
-pub loop-left-init : goal.loop-left-init
-loop-left-init c = (omega arith, refl)
-
-pub is_atom-requires : goal.is_atom-requires
-is_atom-requires c = (c.requires.0, omega (arith, first_size c.loop-left.left c.args.w c.loop-left-test.true))
-
-pub returns-then-not-is_atom : goal.returns-then-not-is_atom
-returns-then-not-is_atom c =
-    let l = c.loop-left in
-    sym
-    (l.invariant.1
-    ∙ are_fails (desk _) _ _ _ (omega arith) (sym c.is_atom.ensures ∙ c.if-not-is_atom.true))
-
-pub overflow_add-at : goal.overflow_add-at
-overflow_add-at c = omega (arith, within c.before)
-
-pub overflow_add-at-in-loop-left : goal.overflow_add-at-in-loop-left
-overflow_add-at-in-loop-left c = omega (arith, within c.before)
-
-pub loop-left-preserved : goal.loop-left-preserved
-loop-left-preserved c =
-    let l = c.loop-left in (
-      omega (arith, within c.before),
-      l.invariant.1
-          ∙ are_passes (desk _) _ _ _ (omega arith) (sym c.is_atom.ensures ∙ c.if-not-is_atom.false),
-    )
-
 pub returns : goal.returns
-returns c = sym (c.loop-left.invariant.1 ∙ are_none (desk _) _ _ _ (omega arith))
+returns c =
+    let a = c.args in
+    all_from_yields_List (λ k. is_atom (desk a.w) a.s.now (a.i + k * (1 + a.w))) _ _ _ c.all.ensures.ran
+    (YieldsList-from_range 0 a.n a.n (search rules) (omega arith)) (λ x b q k. search (rules, tests))
+    ∙ atoms_are (desk a.w) a.s.now a.i a.n

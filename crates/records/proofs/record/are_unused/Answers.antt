@@ -1,18 +1,16 @@
--- `records::record::are_unused` meets its contract. The loop's invariant: the places are unused exactly where those
--- from the j-th on are. The measure is the number of places left.
+-- `records::record::are_unused` meets its contract: each place is 255.
+use Rattle.std.proofs.Common.{rules, tests}
 use native.Mathlib.Omega.{arith}
-use mathlib.Core.Path.{refl, sym, ◌∙◌}
-use Rattle.covering.proofs.Bytes.{unused_passes, unused_fails, unused_none}
+use mathlib.Core.Path.{◌∙◌}
+use Prim.Native.Nat.{◌-◌}
+use lib.Dec.{eqb}
+use Rattle.std.proofs.lemmas.Iterator.{YieldsList-from_slice}
+use Rattle.std.proofs.lemmas.Iterator.Search.{all_from_yields_List}
+use Rattle.records.proofs.Each.{unused_is}
 use Rattle.records.proofs.record.are_unused.Goals as goal
 
-pub loop-j-init : goal.loop-j-init
-loop-j-init c = (omega arith, refl)
-
-pub returns-then-s-i : goal.returns-then-s-i
-returns-then-s-i c = sym (c.loop-j.invariant.1 ∙ unused_fails _ _ _ _ (omega arith) c.if-s-i.true)
-
-pub loop-j-preserved : goal.loop-j-preserved
-loop-j-preserved c = (omega arith, c.loop-j.invariant.1 ∙ unused_passes _ _ _ _ (omega arith) c.if-s-i.false)
-
 pub returns : goal.returns
-returns c = sym (c.loop-j.invariant.1 ∙ unused_none _ _ _ (omega arith))
+returns c =
+    all_from_yields_List (λ b. eqb b 255) _ _ _ c.all.ensures.ran (YieldsList-from_slice _ c.iter.ensures.rest)
+    (λ x b q k. search (rules, tests))
+    ∙ unused_is c.args.s.now _ _ (c.args.w - c.args.from) (omega arith) (omega arith)

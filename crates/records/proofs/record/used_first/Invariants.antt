@@ -1,12 +1,9 @@
 -- `records::record::used_first` meets its contract. The loop's invariant: the places are sound exactly where those from
--- the j-th on are. The measure is the number of places left.
+-- the j-th on are.
 use mathlib.Core.Path.{◌≡◌}
-use Prim.Native.Nat.{◌+◌, ◌-◌, ◌≤◌}
+use Prim.Native.Nat.{◌+◌, ◌-◌}
 use Rattle.covering.specs.Record.{desk, used_first}
 use Rattle.records.proofs.record.used_first.Given as goal
 
 abbrev pub invariant-loop-j : goal.invariant-loop-j
-invariant-loop-j l = (l.j ≤ l.w) × (used_first (desk l.w) l.s l.i l.w ≡ used_first (desk l.w) l.s (l.i + l.j) (l.w - l.j))
-
-abbrev pub decreases-loop-j : goal.decreases-loop-j
-decreases-loop-j l = l.w - l.j
+invariant-loop-j l = used_first (desk l.w) l.s l.i l.w ≡ used_first (desk l.w) l.s (l.i + l.j) (l.w - l.j)

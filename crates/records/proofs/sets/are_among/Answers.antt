@@ -1,24 +1,21 @@
--- `records::sets::are_among` meets its contract. The loop's invariant: all relations are in the set exactly where those
--- from here on are. The measure is the number of atoms left.
+-- `records::sets::are_among` meets its contract: each atom's relation is in the set.
+use Rattle.std.proofs.Common.{rules, tests}
 use native.Mathlib.Omega.{arith}
-use mathlib.Core.Path.{refl, sym, ◌∙◌}
-use Rattle.covering.specs.Record.{stored, question_of}
-use Rattle.records.proofs.Among.{in_none, in_fails, in_passes}
+use mathlib.Core.Path.{◌∙◌}
+use Prim.Native.Nat.{◌+◌, ◌*◌, ◌/◌, ◌%◌, ◌^◌}
+use lib.Dec.{eqb}
+use lib.ListN.{get_or}
+use Rattle.std.proofs.lemmas.Iterator.{YieldsList-from_range}
+use Rattle.std.proofs.lemmas.Iterator.Search.{all_from_yields_List}
+use Rattle.covering.specs.Record.{question_of}
+use Rattle.records.proofs.Among.{each_in}
 use Rattle.records.proofs.sets.are_among.Goals as goal
 
-pub loop-more-init : goal.loop-more-init
-unfolding question_of
-loop-more-init c = (c.requires.fits, refl)
-
-pub returns-then-set-s-ne1 : goal.returns-then-set-s-ne1
-returns-then-set-s-ne1 c =
-    let l = c.loop-more in
-    sym (l.invariant.1 ∙ in_fails stored _ _ _ _ (omega arith) c.if-set-s-ne1.true)
-
-pub loop-more-preserved : goal.loop-more-preserved
-loop-more-preserved c =
-    let l = c.loop-more in
-    (omega arith, l.invariant.1 ∙ in_passes stored _ _ _ _ (omega arith) c.if-set-s-ne1.false)
-
 pub returns : goal.returns
-returns c = sym (c.loop-more.invariant.1 ∙ in_none stored _ _ _ _ (omega arith))
+unfolding question_of
+returns c =
+    let B = c.args.s.now in
+    let set = c.args.set in
+    all_from_yields_List (λ k. eqb (set / 2 ^ (get_or B (1 + k * 7) 0 % 64) % 2) 1) _ _ _ c.all.ensures.ran
+    (YieldsList-from_range 0 (get_or B 0 0) (get_or B 0 0) (search rules) (omega arith)) (λ x b q k. search (rules, tests))
+    ∙ each_in B 1 (get_or B 0 0) set
