@@ -2,12 +2,14 @@
 -- law is about are read off what the call was asked (Asks, Tries) or has reached. Assumes nothing.
 use Prim.Native.Nat.{zero}
 use mathlib.Core.Path.{◌≡◌, refl, sym, ◌∙◌, ap, subst}
-use mathlib.Core.Bool.{Bool, true, false}
+use mathlib.Core.Bool.{Bool, true, false, true≢false}
 use mathlib.Core.List.{List, [], ◌∷◌, ◌++◌}
 use mathlib.Core.Option.{Option, none, some}
 use Prim.Native.Nat.{ℕ, suc, ◌+◌, ◌*◌, ◌-◌, ◌≤◌, ◌<◌}
 use native.Mathlib.Omega.{arith}
 use lib.ListN.{length, get_or}
+use Rattle.std.specs.Prelude.{Some, None, IsSome, IsNone}
+use Rattle.std.specs.Prelude.{Option as Answer}
 use Rattle.covering.specs.Lists.{first_of, numbers}
 use Rattle.covering.specs.Term.{Atom, Question, on_atom}
 use Rattle.covering.specs.Record.{stored, atom_at, atoms_at, question_of}
@@ -17,49 +19,36 @@ use Rattle.book.specs.declared.Parts.{Parts}
 use Rattle.unification.specs.Choice.{count, atom_pairs, to_head}
 use Rattle.unification.specs.Step.{up, move, judge}
 use Rattle.unify.specs.Table.{tabled}
-use Rattle.unify.specs.InBytes.{rule_in, classes_of, merged}
+use Rattle.unify.specs.InBytes.{rule_in, rule_of, classes_of, merged}
 use Rattle.unify.proofs.TableBytes.{merged_yes, merged_no}
 use Rattle.unify.proofs.Joins.{pairs_apart}
 use Rattle.lister.specs.Build.{first, first_by_digit, since, table_builder}
-use Rattle.lister.specs.Listing.{rule_of, told_of, FoundIs, ToldIs, Asks}
+use Rattle.lister.specs.Listing.{found_of, FoundIs, Asks}
 use Rattle.lister.proofs.Prefixes.{digits_none, digits_hit, digits_miss, head_pairs, digit_skips, prefix_digits}
 use Rattle.lister.proofs.Prefixes.{whole_sent, whole_unsent}
 use Rattle.lister.proofs.Asked.{Tries, meeting, left_holds}
 
 -- an answer to one thing that is sought is an answer to another that is the same
-pub told_same : {o o' : Option (ℕ × Question)} {X Y : List ℕ} {r : ℕ} → o ≡ o' → ToldIs o X r Y → ToldIs o' X r Y
-told_same {X = X} {Y = Y} {r = r} e f = subst (λ (o : Option (ℕ × Question)). ToldIs o X r Y) e f
+pub told_same : {o o' : Option (ℕ × Question)} {X Y : List ℕ} {r : Answer ℕ} → o ≡ o' → FoundIs o X r Y → FoundIs o' X r Y
+told_same {X = X} {Y = Y} {r = r} e f = subst (λ (o : Option (ℕ × Question)). FoundIs o X r Y) e f
 
 -- nothing is there to be found, and the room is as it came
-pub told_none : {o : Option (ℕ × Question)} {X : List ℕ} → o ≡ none → ToldIs o X 0 X
+pub told_none : {o : Option (ℕ × Question)} {X : List ℕ} → o ≡ none → FoundIs o X None X
 told_none n = told_same (sym n) (record { answer = refl; room = refl })
 
--- the number, as `next` tells it
-pub found_none : (o : Option (ℕ × Question)) {X Y : List ℕ} {r : ℕ} → ToldIs o X r Y → r ≡ 0
-    → FoundIs o X (record { found = false; choice = 0 }) Y
-found_none none t e = record { answer = refl; room = t.room }
-found_none (some x) t e = absurd (omega (arith, t.answer))
-
-pub found_some : (o : Option (ℕ × Question)) {X Y : List ℕ} {r : ℕ} → ToldIs o X r Y → (r ≡ 0 → ⊥)
-    → FoundIs o X (record { found = true; choice = r - 1 }) Y
-found_some none t e = absurd (e t.answer)
-found_some (some x) {r = r} t e =
-    let c : r - 1 ≡ x.0 = omega (arith, t.answer) in
-    record { answer = ap (λ (n : ℕ). record { found = true; choice = n }) c; room = t.room }
-
 -- an answer that says found, or not, tells what it is the answer to
-module _ {X Y : List ℕ} {r : ℕ} where
-  found_first : (f : ℕ → Option (ℕ × Question)) (d n : ℕ) → 0 < n → ToldIs (f d) X r Y → (r ≡ 0 → ⊥)
-      → ToldIs (first_of f (numbers d n)) X r Y
+module _ {X Y : List ℕ} {r : Answer ℕ} where
+  found_first : (f : ℕ → Option (ℕ × Question)) (d n : ℕ) → 0 < n → FoundIs (f d) X r Y → IsSome r
+      → FoundIs (first_of f (numbers d n)) X r Y
   found_first f d n h e t = go (f d) refl e.answer
     where
-      go : (o : Option (ℕ × Question)) → f d ≡ o → r ≡ told_of o → ToldIs (first_of f (numbers d n)) X r Y
-      go none q u = absurd (t u)
+      go : (o : Option (ℕ × Question)) → f d ≡ o → r ≡ found_of o → FoundIs (first_of f (numbers d n)) X r Y
+      go none q u = absurd (true≢false (sym (subst IsSome u t)))
       go (some x) q u = told_same (q ∙ sym (digits_hit f d n h q)) e
 
-  missed_none : (o : Option (ℕ × Question)) → ToldIs o X r Y → r ≡ 0 → (o ≡ none) × (Y ≡ X)
+  missed_none : (o : Option (ℕ × Question)) → FoundIs o X r Y → IsNone r → (o ≡ none) × (Y ≡ X)
   missed_none none e t = (refl, e.room)
-  missed_none (some x) e t = absurd (omega (arith, e.answer))
+  missed_none (some x) e t = absurd (true≢false (subst IsNone e.answer t))
 
 pub heads_are : (B : List ℕ) (p : Parts) → length (rule_of B p).head ≡ p.heads
 unfolding rule_in
@@ -79,10 +68,8 @@ module _ (Q B : List ℕ) (p : Parts) (from i more number : ℕ) (sent : Bool) (
       (atoms_at stored Q (i + 7) (more - 1)) (classes_of table)
 
   -- the digits before d gave nothing, so it is the first that those from d on give
-  pub record Reached (heads d : ℕ) : Type 0 where
-    pub all : heads ≡ p.heads
-    pub within : d ≤ heads + 1
-    pub rest : sought ≡ first_of sought_by (numbers d (suc heads - d))
+  pub record Reached (d : ℕ) : Type 0 where
+    pub rest : sought ≡ first_of sought_by (numbers d (suc p.heads - d))
 
 -- `build` at a whole choice
 module _ {Q B : List ℕ} {p : Parts} {i more number : ℕ} {sent : Bool} {A table : List ℕ}
@@ -99,11 +86,9 @@ module _ {Q B : List ℕ} {p : Parts} {i more number : ℕ} {sent : Bool} {A tab
 
 -- `build` with atoms left goes through the digits
 module _ {Q B : List ℕ} {p : Parts} {from i more number : ℕ} {sent : Bool} {A table : List ℕ} where
-  pub reached_first : 0 < more → Reached Q B p from i more number sent A table p.heads 0
+  pub reached_first : 0 < more → Reached Q B p from i more number sent A table 0
   reached_first h =
       record {
-        all = refl;
-        within = omega arith;
         rest = prefix_digits 48 (rule_of B p) from number (question_of stored A) sent (classes_of table) stored Q i more h
             ∙ ap (λ n. first_of (sought_by Q B p from i more number sent A table) (numbers 0 n)) count_is;
       }
@@ -111,26 +96,24 @@ module _ {Q B : List ℕ} {p : Parts} {from i more number : ℕ} {sent : Bool} {
       count_is : suc (length (rule_of B p).head) ≡ suc p.heads - 0
       count_is = omega (arith, heads_are B p)
 
-  module _ {heads d : ℕ} (at : Reached Q B p from i more number sent A table heads d) where
-    pub reached_last : heads < d → sought Q B p from i more number sent A table ≡ none
-    reached_last h = at.rest ∙ digits_none _ d (suc heads - d) (omega arith)
+  module _ {d : ℕ} (at : Reached Q B p from i more number sent A table d) where
+    pub reached_last : p.heads < d → sought Q B p from i more number sent A table ≡ none
+    reached_last h = at.rest ∙ digits_none _ d (suc p.heads - d) (omega arith)
 
-    module _ (h : d ≤ heads) {X Y : List ℕ} {r : ℕ}
-        (e : ToldIs (sought_by Q B p from i more number sent A table d) X r Y) where
+    module _ (h : d ≤ p.heads) {X Y : List ℕ} {r : Answer ℕ}
+        (e : FoundIs (sought_by Q B p from i more number sent A table d) X r Y) where
       abbrev f : ℕ → Option (ℕ × Question)
       f = sought_by Q B p from i more number sent A table
 
-      pub reached_found : (r ≡ 0 → ⊥) → ToldIs (sought Q B p from i more number sent A table) X r Y
-      reached_found t = told_same (sym at.rest) (found_first f d (suc heads - d) (omega arith) e t)
+      pub reached_found : IsSome r → FoundIs (sought Q B p from i more number sent A table) X r Y
+      reached_found t = told_same (sym at.rest) (found_first f d (suc p.heads - d) (omega arith) e t)
 
-      pub reached_next : r ≡ 0 → Reached Q B p from i more number sent A table heads (d + 1) × (Y ≡ X)
+      pub reached_next : IsNone r → Reached Q B p from i more number sent A table (d + 1) × (Y ≡ X)
       reached_next t =
           let missed = missed_none (f d) e t in (
             record {
-              all = at.all;
-              within = omega arith;
               rest = at.rest
-                  ∙ digits_miss f d (suc heads - d) (suc heads - (d + 1)) (d + 1) (omega arith) (omega arith) missed.0;
+                  ∙ digits_miss f d (suc p.heads - d) (suc p.heads - (d + 1)) (d + 1) (omega arith) (omega arith) missed.0;
             },
             missed.1,
           )

@@ -23,10 +23,11 @@ use Rattle.unification.specs.Choice.{count, place_pairs, atom_pairs}
 use Rattle.unification.specs.Step.{up, next}
 use Rattle.lister.specs.Build.{first, table_builder}
 use Rattle.unify.specs.Table.{Table, own, unify_table}
-use Rattle.unify.specs.InBytes.{in_book, rule_in, classes_of, merged}
-use Rattle.lister.specs.Listing.{rule_of, LeftIn, RuleIn, QuestionIn, ClassesFit, Asks}
+use Rattle.unify.specs.InBytes.{in_book, rule_in, rule_of, classes_of, merged}
+use Rattle.lister.specs.Listing.{LeftIn, RuleIn, QuestionIn, ClassesFit, Asks}
 use Rattle.lister.specs.Counts.{most_choices}
 use Rattle.unify.proofs.Each.{below, at}
+use Rattle.unify.proofs.EachTerm.{nth_sound}
 use Rattle.unify.proofs.TableBytes.{merged_yes}
 use Rattle.lister.proofs.Table.{own_length, next_table}
 use Rattle.lister.proofs.Entries.{unify_good, place_ends, places_alone, EntriesEnd}
@@ -34,20 +35,6 @@ use Rattle.unification.proofs.Prefix.{count_some}
 use Rattle.lister.proofs.Prefixes.{prefix_within}
 use Rattle.lister.proofs.RewritingBytes.{book_stored, book_apart, all_fit, rest_in, first_fits, first_atom_in}
 use Rattle.lister.proofs.LeftAtoms.{fits_stored, left_none, left_room, left_put}
-
--- the head atom after the first e is sound
-pub nth_sound : (B : List ℕ) (n e i : ℕ) → e < n → T (are_atoms in_book B i n) → T (is_atom in_book B (i + e * 7))
-nth_sound B (suc n) zero i lt t =
-    subst (λ x. T (is_atom in_book B x)) (omega arith) (sound_more in_book B i (suc n) (omega arith) t).0
-nth_sound B (suc n) (suc e) i lt t =
-    subst (λ x. T (is_atom in_book B x)) same (nth_sound B n e (i + 7) (omega arith) rest)
-  where
-    rest : T (are_atoms in_book B (i + 7) n)
-    rest = subst (λ m. T (are_atoms in_book B (i + 7) m)) (omega arith) (sound_more in_book B i (suc n) (omega arith) t).1
-
-    same : i + 7 + e * 7 ≡ i + suc e * 7
-    same = omega arith
-nth_sound B zero e i lt t = absurd (omega arith)
 
 nth_fits : (B : List ℕ) (n e i : ℕ) → e < n → T (are_atoms in_book B i n)
     → AtomFits in_book (atom_at stored B (i + e * 7))

@@ -4,5 +4,5 @@ use mathlib.Core.Path.{◌≡◌, sym, ◌∙◌}
 use Rattle.lister.proofs.builder.next.Reads as next-reads
 
 pub next_determined : (κs : _) (a : _) (r s : _) (x y : _) → next-reads.Learnt κs a r x → next-reads.Learnt κs a s y
-    → (r ≡ s) × (x.1.1.1.1.1.0.now ≡ y.1.1.1.1.1.0.now)
+    → (r ≡ s) × (x.1.1.1.1.0.now ≡ y.1.1.1.1.0.now)
 next_determined κs a r s x y p q = (p.answer ∙ sym q.answer, p.room ∙ sym q.room)

@@ -15,11 +15,10 @@ use Rattle.unification.specs.Choice.{count}
 use Rattle.unification.specs.Step.{move}
 use Rattle.unification.proofs.Prefix.{count_some}
 use Rattle.unify.specs.Table.{tabled, own}
-use Rattle.unify.specs.InBytes.{classes_of, merged}
-use Rattle.unify.specs.Unknowns.{has_unknowns}
-use Rattle.lister.specs.Counts.{most_choices, CountsFor}
+use Rattle.unify.specs.InBytes.{rule_of, classes_of, merged}
+use Rattle.lister.specs.Counts.{most_choices}
 use Rattle.lister.specs.Leaving.{left_by, any_sent}
-use Rattle.lister.specs.Listing.{rule_of, QuestionIn, RuleIn, Asks, Builds}
+use Rattle.lister.specs.Listing.{QuestionIn, RuleIn, Asks, Builds}
 use Rattle.lister.proofs.LeftByBits.{none_left, left_more, sent_more}
 use Rattle.lister.proofs.Asked.{Tries, meeting, child_left, child_sent, start_asks}
 use Rattle.lister.proofs.Answers.{sought, sought_by, left_at, sent_at}
@@ -41,16 +40,8 @@ as_before (suc m) = sym (some_sent_lem (suc m * 2) (λ e. absurd (omega arith)))
 next_place : (n : ℕ) → 1 + n * 7 + 7 ≡ 1 + (n + 1) * 7
 next_place n = omega arith
 
--- no number is as great as there are choices
-pub number_small : {Q B row table : List ℕ} {p : Parts} {unknowns : Bool} {passed more number sent : ℕ}
-    → Builds Q B p row unknowns passed more number sent table → number < most_choices
-number_small {p = p} {more = more} {number = number} b =
-    let one : suc number * 1 ≤ suc number * count p.heads more =
-    mul-le-mul_left (suc number) (count_some p.heads more) in
-    omega (arith, one, b.asks.small)
-
-module _ {Q B row table : List ℕ} {p : Parts} {unknowns : Bool} {passed more number sent d : ℕ}
-    (b : Builds Q B p row unknowns passed more number sent table) (some : 0 < more) (small : d ≤ p.heads) where
+module _ {Q B table : List ℕ} {p : Parts} {passed more number sent d : ℕ}
+    (b : Builds Q B p passed more number sent table) (some : 0 < more) (small : d ≤ p.heads) where
   tries : Tries Q B p (1 + passed * 7) more number (any_sent sent) (left_by Q passed sent) table d
   tries = (b.asks, some, small)
 
@@ -65,17 +56,14 @@ module _ {Q B row table : List ℕ} {p : Parts} {unknowns : Bool} {passed more n
 
   with_digit : {sent' : ℕ} {table' : List ℕ} → sent' ≤ next
       → Asks Q B p (1 + passed * 7 + 7) (more - 1) next (any_sent sent') (left_by Q (passed + 1) sent') table'
-      → Builds Q B p row unknowns (passed + 1) (more - 1) next sent' table'
+      → Builds Q B p (passed + 1) (more - 1) next sent' table'
   with_digit {sent' = sent'} {table' = table'} bits asks =
       record {
         asks = subst
             (λ i. Asks Q B p i (more - 1) next (any_sent sent') (left_by Q (passed + 1) sent') table')
             (next_place passed) asks;
-        question = b.question;
         all = omega (arith, b.all);
         bits = bits;
-        counts = b.counts;
-        told = b.told;
       }
 
   module _ (from : ℕ) where
@@ -96,7 +84,7 @@ module _ {Q B row table : List ℕ} {p : Parts} {unknowns : Bool} {passed more n
         (sym (as_before sent))
         ∙ left_at tries from e (left_more Q passed sent)
 
-  pub asks_left : Builds Q B p row unknowns (passed + 1) (more - 1) next (sent * 2) table
+  pub asks_left : Builds Q B p (passed + 1) (more - 1) next (sent * 2) table
   asks_left =
       with_digit (omega (arith, doubled))
       (subst
@@ -113,7 +101,7 @@ module _ {Q B row table : List ℕ} {p : Parts} {unknowns : Bool} {passed more n
       as_sent : Asks Q B p (1 + passed * 7 + 7) (more - 1) next true (left_by Q passed sent) table'
       as_sent = child_sent tries h ok copy table' e kept same t
 
-      pub asks_sent : Builds Q B p row unknowns (passed + 1) (more - 1) next (sent * 2 + 1) table'
+      pub asks_sent : Builds Q B p (passed + 1) (more - 1) next (sent * 2 + 1) table'
       asks_sent =
           with_digit (omega (arith, doubled))
           (subst
@@ -147,21 +135,18 @@ module _ {Q B row table : List ℕ} {p : Parts} {unknowns : Bool} {passed more n
         ∙ sent_at tries from h ok copy table' e same t
 
 -- what `try_digit` is asked, for the laws about it
-pub trying : {Q B row table : List ℕ} {p : Parts} {unknowns : Bool} {passed more number sent d : ℕ} {E : Type 0}
-    → Builds Q B p row unknowns passed more number sent table × ((0 < more) × (d ≤ p.heads) × E)
+pub trying : {Q B table : List ℕ} {p : Parts} {passed more number sent d : ℕ} {E : Type 0}
+    → Builds Q B p passed more number sent table × ((0 < more) × (d ≤ p.heads) × E)
     → Tries Q B p (1 + passed * 7) more number (any_sent sent) (left_by Q passed sent) table d
 trying k = (k.0.asks, k.1.0, k.1.1)
 
 -- where the builder starts: no atom passed
-pub start_builds : {Q B : List ℕ} {p : Parts} {row table : List ℕ} {unknowns : Bool} → QuestionIn Q → RuleIn B p
-    → classes_of table ≡ own 0 96 → CountsFor p.heads row → unknowns ≡ has_unknowns (rule_of B p)
-    → Builds Q B p row unknowns 0 (get_or Q 0 0) 0 0 table
-start_builds {Q = Q} {B = B} {p = p} {table = table} q r o counts told =
+pub start_builds : {Q B : List ℕ} {p : Parts} {table : List ℕ} → QuestionIn Q → RuleIn B p
+    → classes_of table ≡ own 0 96
+    → Builds Q B p 0 (get_or Q 0 0) 0 0 table
+start_builds {Q = Q} {B = B} {p = p} {table = table} q r o =
     record {
       asks = start_asks Q B p q r (left_by Q 0 0) table (none_left Q 0 0 refl) o;
-      question = q;
       all = omega arith;
       bits = omega arith;
-      counts = counts;
-      told = told;
     }

@@ -28,11 +28,11 @@ use Rattle.unification.proofs.Extending.{left_extends, unify_extends, unify_stop
 use Rattle.unification.proofs.Moved.{moved_below}
 use Rattle.unification.proofs.Numbers.{choice_length, number_below}
 use Rattle.unification.proofs.Prefix.{choice_split, choice_drop, numbered}
-use Rattle.unify.specs.InBytes.{in_book, rule_in, classes_of}
+use Rattle.unify.specs.InBytes.{in_book, rule_in, rule_of, classes_of}
 use Rattle.unify.specs.Table.{own, unify_table}
 use Rattle.unify.proofs.TableBytes.{merged_yes, merged_no}
 use Rattle.lister.specs.FirstDigits.{surely_left, settled, DigitFor, DigitPut}
-use Rattle.lister.specs.Listing.{rule_of, RuleIn, QuestionIn, LeftIn, ClassesFit}
+use Rattle.lister.specs.Listing.{RuleIn, QuestionIn, LeftIn, ClassesFit}
 use Rattle.lister.proofs.Asked.{fits_below, apart_fit}
 use Rattle.lister.proofs.LeftAtoms.{left_held, left_none, left_each}
 use Rattle.lister.proofs.RewritingBytes.{all_fit}

@@ -25,10 +25,10 @@ use Rattle.reading.specs.Verdict.{SoundBook}
 use Rattle.book.specs.Parts.{parts_at}
 use Rattle.reading.proofs.SoundBook.{sound_header, sound_rule, sound_body, sound_head, BookRoom}
 use Rattle.reading.proofs.SoundQuestion.{records_few, sound_question}
-use Rattle.lister.specs.declared.Found.{Found}
+use Rattle.std.specs.Prelude.{Some}
 use Rattle.unification.specs.Step.{next}
-use Rattle.unify.specs.InBytes.{in_book, rule_in}
-use Rattle.lister.specs.Listing.{rule_of, RuleIn, QuestionIn, found_of}
+use Rattle.unify.specs.InBytes.{in_book, rule_in, rule_of}
+use Rattle.lister.specs.Listing.{RuleIn, QuestionIn, found_of}
 use Rattle.lister.specs.Counts.{most_choices}
 use Rattle.unification.proofs.Following.{next_listed, listed_below}
 use Rattle.lister.proofs.Asked.{count_few}
@@ -108,18 +108,15 @@ module _ (Q B : List ℕ) (p : Parts) (q : QuestionIn Q) (r : RuleIn B p) (from 
   long : length (question_of stored Q) ≡ get_or Q 0 0
   long = question_count stored Q
 
-  pub found_within : (f : Found) → f ≡ found_of (next 48 (rule_of B p) (question_of stored Q) from) → f.found ≡ true
-      → (from ≤ f.choice) × (f.choice < most_choices)
-  found_within f e t = go (next 48 (rule_of B p) (question_of stored Q) from) refl e
+  pub found_within : (n : ℕ) → Some n ≡ found_of (next 48 (rule_of B p) (question_of stored Q) from)
+      → (from ≤ n) × (n < most_choices)
+  found_within n e = go (next 48 (rule_of B p) (question_of stored Q) from) refl e
     where
-      go : (o : Option (ℕ × Question)) → next 48 (rule_of B p) (question_of stored Q) from ≡ o → f ≡ found_of o
-          → (from ≤ f.choice) × (f.choice < most_choices)
-      go none o a =
-          let z : true ≡ false = sym t ∙ ap (λ (x : Found). x.found) a in
-          let y : ◌≡◌ {A = ℕ} 0 1 = cc in
-          absurd (omega arith)
+      go : (o : Option (ℕ × Question)) → next 48 (rule_of B p) (question_of stored Q) from ≡ o → Some n ≡ found_of o
+          → (from ≤ n) × (n < most_choices)
+      go none o a = cc
       go (some x) o a =
-          let c : f.choice ≡ x.0 = ap (λ (y : Found). y.choice) a in
+          let c : n ≡ x.0 = cc in
           let m = next_listed 48 (rule_of B p) (question_of stored Q) from x o in
           let b = listed_below 48 (rule_of B p) (question_of stored Q) x.0 x.1 m.0 in
           let h =

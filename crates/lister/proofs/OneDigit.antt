@@ -16,13 +16,15 @@ use Rattle.covering.proofs.Places.{atoms_step, are_atoms_lem}
 use Rattle.book.specs.declared.Parts.{Parts}
 use Rattle.unification.specs.Choice.{left, to_head, pairing, atom_pairs}
 use Rattle.unification.specs.Step.{up, move}
-use Rattle.unify.specs.InBytes.{in_book, classes_of, merged}
+use Rattle.unify.specs.InBytes.{rule_of, in_book, classes_of, merged}
 use Rattle.unify.specs.Table.{unify_table}
 use Rattle.unify.proofs.TableBytes.{merged_yes}
 use Rattle.lister.specs.FirstDigits.{DigitFor, DigitPut}
-use Rattle.lister.specs.Listing.{rule_of, QuestionIn}
+use Rattle.lister.specs.Listing.{QuestionIn}
 use Rattle.lister.proofs.Answers.{pairs_are}
-use Rattle.lister.proofs.Asked.{Tries, child_sent, nth_sound, count_few}
+use Rattle.unify.proofs.EachTerm.{nth_sound}
+use Rattle.lister.proofs.Asked.{Tries, child_sent, count_few}
+use Rattle.lister.proofs.RewritingBytes.{one_atom}
 use Rattle.lister.proofs.Table.{In, Small, head_small}
 
 -- the atom after the first j
@@ -45,17 +47,6 @@ nth_atom L B i (suc n) (suc j) a lt =
 pub count_classes : (table : List ℕ) → length table ≡ length (classes_of table)
 unfolding classes_of
 count_classes table = sym (length-map table term_of)
-
--- one atom is a part with one atom
-pub one_atom : {Q : List ℕ} {i : ℕ} → AtomIn in_book Q i → AtomsIn in_book Q i 1
-one_atom {Q} {i} a =
-    record {
-      fits = omega (arith, a.fits);
-      sound = are_atoms_lem in_book Q i 1 (λ j l. subst (λ x. T (is_atom in_book Q x)) (at j l) a.sound);
-    }
-  where
-    at : (j : ℕ) → j < 1 → i ≡ i + size in_book * j
-    at j l = omega arith
 
 -- the j-th atom of a question
 pub nth_in_book : {Q : List ℕ} → QuestionIn Q → {j : ℕ} → j < get_or Q 0 0 → AtomIn in_book Q (1 + j * 7)

@@ -17,9 +17,9 @@ use Rattle.unification.specs.Step.{move, valid}
 use Rattle.unification.proofs.Invalid.{invalid_left, invalid_sent}
 use Rattle.unification.proofs.Moved.{moved_below}
 use Rattle.unify.specs.Table.{Table, tabled}
-use Rattle.unify.specs.InBytes.{rule_in, classes_of}
+use Rattle.unify.specs.InBytes.{rule_in, rule_of, classes_of}
 use Rattle.lister.specs.Build.{first, builder, table_builder}
-use Rattle.lister.specs.Listing.{rule_of, Asks}
+use Rattle.lister.specs.Listing.{Asks}
 use Rattle.lister.proofs.Carried.{KeptByDigits, first_nothing}
 use Rattle.lister.proofs.Prefixes.{judged_no}
 use Rattle.lister.proofs.Table.{Agree, table_same}

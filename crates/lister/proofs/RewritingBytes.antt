@@ -4,19 +4,19 @@ use mathlib.Core.Path.{◌≡◌, refl, sym, ◌∙◌, ap, ap₂, subst}
 use mathlib.Core.List.{List, [], ◌∷◌, ◌++◌, append_assoc, append-nil, map-map}
 use mathlib.Core.List.Memᴰ
 use mathlib.Core.Logic.{◌⊎◌, inl, inr}
-use Prim.Native.Nat.{ℕ, ◌+◌, ◌-◌, ◌≤◌, ◌<◌}
+use Prim.Native.Nat.{ℕ, ◌+◌, ◌*◌, ◌-◌, ◌≤◌, ◌<◌}
 use native.Mathlib.Omega.{arith}
 use lib.Dec.{T}
 use lib.ListN.{length, get_or, length-map, length-append}
 use Rattle.covering.specs.Lists.{◌∈◌}
 use Rattle.covering.specs.Term.{Term, var, con, Atom, Question, Sub, on_term, on_atom, on_question, comp}
 use Rattle.covering.specs.Record.{stored, term_of, atom_at, atoms_at, question_of, are_atoms, TermFits, AtomFits}
-use Rattle.covering.specs.Record.{Fits}
+use Rattle.covering.specs.Record.{Fits, is_atom, size}
 use Rattle.covering.specs.Buffer.{held_in, AtomIn, AtomsIn, RoomLeft, record_room}
 use Rattle.forming.specs.Building.{sub_of}
 use Rattle.covering.proofs.Lists.{map_same, map_append}
 use Rattle.covering.proofs.Terms.{on_atom_comp, on_atom_same}
-use Rattle.covering.proofs.Places.{atoms_none, atoms_more, sound_more, question_at_lem}
+use Rattle.covering.proofs.Places.{atoms_none, sound_more, are_atoms_lem, question_at_lem}
 use Rattle.covering.proofs.RoundTrip.{TellsApart, stored_apart}
 use Rattle.covering.proofs.Padded.{held_count, held_question, held_atoms}
 use Rattle.covering.proofs.Lengths.{count_atoms, question_count}
@@ -28,8 +28,9 @@ use Rattle.covering.proofs.Within.{in_wider}
 use Rattle.book.specs.declared.Parts.{Parts}
 use Rattle.unification.specs.Step.{up, move, rewriting}
 use Rattle.unify.specs.Table.{tabled}
-use Rattle.unify.specs.InBytes.{in_book, classes_of, rule_in}
-use Rattle.lister.specs.Listing.{rule_of, ClassesFit, Filling, UpperHalf, LeftIn, RuleIn, Written}
+use Rattle.unify.specs.InBytes.{in_book, classes_of, rule_in, rule_of}
+use Rattle.lister.specs.Listing.{ClassesFit, Filling, UpperHalf, LeftIn, RuleIn, Written}
+use Rattle.unify.proofs.EachTerm.{from_atom, next_atom, nth_sound}
 use Rattle.unify.proofs.TableBytes.{classes_at}
 use Rattle.lister.proofs.Halves.{upper_fits, in_classes}
 
@@ -54,6 +55,21 @@ first_atom_in B i n a h =
 
 pub rest_in : (B : List ℕ) (i n : ℕ) → AtomsIn in_book B i n → 0 < n → AtomsIn in_book B (i + 7) (n - 1)
 rest_in B i n a h = record { fits = omega (arith, a.fits); sound = (sound_more in_book B i n h a.sound).1 }
+
+-- one atom is a part with one atom
+pub one_atom : {B : List ℕ} {i : ℕ} → AtomIn in_book B i → AtomsIn in_book B i 1
+one_atom {B} {i} a =
+    record {
+      fits = omega (arith, a.fits);
+      sound = are_atoms_lem in_book B i 1 (λ j l. subst (λ x. T (is_atom in_book B x)) (at j l) a.sound);
+    }
+  where
+    at : (j : ℕ) → j < 1 → i ≡ i + size in_book * j
+    at j l = omega arith
+
+-- and so is the one after the first k
+pub nth_in : (B : List ℕ) (i n k : ℕ) → AtomsIn in_book B i n → k < n → AtomsIn in_book B (i + k * 7) 1
+nth_in B i n k a h = one_atom (record { fits = omega (arith, a.fits); sound = nth_sound B n k i h a.sound })
 
 pub first_fits : (B : List ℕ) (i n : ℕ) → AtomsIn in_book B i n → 0 < n → AtomFits in_book (atom_at stored B i)
 first_fits B i n a h =
@@ -128,21 +144,23 @@ filling_none R n e h =
     grows_filling R [] n (record { bytes = e; each = λ a m. absurd (Memᴰ.not-nil m); room = omega arith })
 
 -- one atom more of those that are put, the rest from the next on
-pub put_more : (s : Sub) (A R F : List ℕ) (i n : ℕ) → 0 < n
-    → question_of stored R ≡ question_of stored A ++ on_atom s (atom_at stored F i) ∷ []
-    → question_of stored A ++ on_question s (atoms_at stored F i n)
-    ≡ question_of stored R ++ on_question s (atoms_at stored F (i + 7) (n - 1))
-put_more s A R F i n h e =
-    ap (λ q. question_of stored A ++ on_question s q) (atoms_more stored F i n h)
-    ∙ sym (append_assoc (question_of stored A) (on_atom s (atom_at stored F i) ∷ []) _)
-    ∙ ap (λ q. q ++ on_question s (atoms_at stored F (i + 7) (n - 1))) (sym e)
+pub put_more : (s : Sub) (A R F : List ℕ) (i n k : ℕ) → k < n
+    → question_of stored R ≡ question_of stored A ++ on_atom s (atom_at stored F (i + k * 7)) ∷ []
+    → question_of stored A ++ on_question s (from_atom F i n k)
+    ≡ question_of stored R ++ on_question s (from_atom F i n (k + 1))
+put_more s A R F i n k h e =
+    ap (λ q. question_of stored A ++ on_question s q) (next_atom F i n k h)
+    ∙ sym (append_assoc (question_of stored A) (on_atom s (atom_at stored F (i + k * 7)) ∷ []) _)
+    ∙ ap (λ q. q ++ on_question s (from_atom F i n (k + 1))) (sym e)
 
-pub put_none : (s : Sub) (A F : List ℕ) (i n k : ℕ) → n ≡ 0 → Filling A k
-    → A ≡ held_in stored record_room (question_of stored A ++ on_question s (atoms_at stored F i n))
-put_none s A F i n k e f =
+pub put_none : (s : Sub) (A F : List ℕ) (i n k room : ℕ) → n ≤ k → Filling A room
+    → A ≡ held_in stored record_room (question_of stored A ++ on_question s (from_atom F i n k))
+put_none s A F i n k room e f =
     f.holds
     ∙ ap (held_in stored record_room)
-    (sym (ap (λ q. question_of stored A ++ on_question s q) (atoms_none stored F i n e) ∙ append-nil (question_of stored A)))
+    (sym
+    (ap (λ q. question_of stored A ++ on_question s q) (atoms_none stored F (i + k * 7) (n - k) (omega arith))
+    ∙ append-nil (question_of stored A)))
 
 -- two substitutions that agree on the variables of a book's atoms
 on_question_same : (s t : Sub) (A : Question) → ((a : Atom) → a ∈ A → AtomFits in_book a)

@@ -25,13 +25,13 @@ use Rattle.unification.proofs.Classes.{Solved, unify_sound, coarser_term}
 use Rattle.unification.proofs.Collected.{first_of_same, first_of_none}
 use Rattle.unification.proofs.Pairs.{head_of}
 use Rattle.book.specs.declared.Parts.{Parts}
-use Rattle.unify.specs.InBytes.{classes_of}
+use Rattle.unify.specs.InBytes.{rule_of, classes_of}
 use Rattle.unify.specs.Stuck.{TiedTo, Barred, Stuck}
 use Rattle.unify.specs.Table.{Table, tabled}
 use Rattle.lister.specs.Build.{Builder, more, first, first_by_digit, builder, table_builder}
 use Rattle.lister.proofs.Build.{first_digits}
 use Rattle.lister.specs.Hopeless.{Hopeless}
-use Rattle.lister.specs.Listing.{rule_of, Asks}
+use Rattle.lister.specs.Listing.{Asks}
 use Rattle.lister.proofs.Pruned.{invalid_stays, asked_invalid, low_body, low_head, low_rest, low_left, whole}
 use Rattle.lister.proofs.Table.{table_same}
 

@@ -16,32 +16,36 @@ use Rattle.covering.specs.Record.{stored, atom_at, atoms_at, question_of, AtomFi
 use Rattle.covering.specs.Buffer.{held_in, AtomIn, record_room}
 use Rattle.covering.proofs.Lengths.{question_count}
 use Rattle.covering.proofs.Lists.{keep_out, any_in}
-use Rattle.covering.proofs.Places.{relation_at, atoms_none, atoms_more, question_at_lem}
+use Rattle.covering.proofs.Places.{relation_at, atoms_none, question_at_lem}
 use Rattle.covering.proofs.Tests.{clash}
 use Rattle.unification.proofs.Unrelated.{Unrelated}
 use Rattle.unify.specs.InBytes.{in_book}
+use Rattle.unify.proofs.EachTerm.{from_atom, next_atom}
 use Rattle.lister.specs.FirstDigits.{unmet}
 use Rattle.lister.specs.Listing.{QuestionIn, LeftIn}
-use Rattle.lister.proofs.RewritingBytes.{first_fits, first_atom_in}
-use Rattle.lister.proofs.OneDigit.{nth_atom, one_atom, nth_in_book}
+use Rattle.lister.proofs.RewritingBytes.{first_fits, first_atom_in, one_atom}
+use Rattle.lister.proofs.OneDigit.{nth_atom, nth_in_book}
 use Rattle.lister.proofs.LeftAtoms.{left_put}
 
 -- whether an atom of H has the relation
 abbrev pub met : ℕ → Question → Bool
 met n H = any (λ b. eqb n b.rel) H
 
--- the head atoms in their bytes, the first of them taken
-module _ (B : List ℕ) (i left n : ℕ) where
-  pub met_none : left ≡ 0 → met n (atoms_at stored B i left) ≡ false
-  met_none e = rw (atoms_none stored B i left e)
+-- the head atoms in their bytes, of which k are passed
+module _ (B : List ℕ) (i heads n k : ℕ) where
+  pub met_none : heads ≤ k → met n (from_atom B i heads k) ≡ false
+  met_none h = rw (atoms_none stored B (i + k * 7) (heads - k) (omega arith))
 
-  pub met_here : 0 < left → get_or B i 0 ≡ n → met n (atoms_at stored B i left) ≡ true
-  met_here h e = rw (atoms_more stored B i left h, eq-eqb n (atom_at stored B i).rel (sym (relation_at stored B i ∙ e)))
+  pub met_here : k < heads → get_or B (i + k * 7) 0 ≡ n → met n (from_atom B i heads k) ≡ true
+  met_here h e =
+      ap (met n) (next_atom B i heads k h)
+      ∙ rw (eq-eqb n (atom_at stored B (i + k * 7)).rel (sym (relation_at stored B (i + k * 7) ∙ e)))
 
-  pub met_later : 0 < left → (get_or B i 0 ≡ n → ⊥)
-      → met n (atoms_at stored B i left) ≡ met n (atoms_at stored B (i + 7) (left - 1))
+  pub met_later : k < heads → (get_or B (i + k * 7) 0 ≡ n → ⊥)
+      → met n (from_atom B i heads k) ≡ met n (from_atom B i heads (k + 1))
   met_later h e =
-      rw (atoms_more stored B i left h, ne_eqb n (atom_at stored B i).rel (λ x. e (sym (x ∙ relation_at stored B i))))
+      ap (met n) (next_atom B i heads k h)
+      ∙ rw (ne_eqb n (atom_at stored B (i + k * 7)).rel (λ x. e (sym (x ∙ relation_at stored B (i + k * 7)))))
 
 pub unmet_are : (H Q : Question) (p : ℕ) (a : Atom) → a ∈ unmet H (drop p Q) → (a ∈ Q) × Unrelated (a ∷ []) H
 unmet_are H Q p a m =

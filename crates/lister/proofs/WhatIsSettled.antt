@@ -5,6 +5,7 @@ use mathlib.Core.Bool.{true}
 use mathlib.Core.Logic.{◌⊎◌, inl, inr}
 use mathlib.Core.List.Memᴰ
 use mathlib.Core.List.{List, ◌++◌}
+use Rattle.std.specs.Prelude.{Some}
 use mathlib.Core.Option.{Option, none, some, some-injective}
 use Prim.Native.Nat.{ℕ, ◌≤◌, ◌<◌}
 use native.Mathlib.Omega.{arith}
@@ -23,10 +24,10 @@ use Rattle.book.specs.declared.Parts.{Parts}
 use Rattle.unification.specs.Choice.{Choice, number, choices}
 use Rattle.unification.specs.Step.{move, rewriting}
 use Rattle.unification.proofs.Moved.{moved_below}
-use Rattle.unify.specs.InBytes.{rule_in, classes_of}
+use Rattle.unify.specs.InBytes.{rule_in, rule_of, classes_of}
 use Rattle.unify.specs.Table.{Table, tabled}
 use Rattle.lister.specs.FirstDigits.{unmet, surely_left, settled, settled_of, PrefixIs, UnmetLeft}
-use Rattle.lister.specs.Listing.{rule_of, RuleIn, Written}
+use Rattle.lister.specs.Listing.{RuleIn, Written}
 use Rattle.lister.proofs.Answers.{heads_are}
 use Rattle.lister.proofs.Asked.{fits_below}
 use Rattle.lister.proofs.LeftAtoms.{left_each}
@@ -123,14 +124,14 @@ module _ (Q B : List ℕ) (p : Parts) (c : ℕ) where
               settled_by_lem (some S)
               (cond_yes (leb (length L) 8) (some S) none (le→leb (length L) 8 (omega (arith, counted))))
 
-          pub prefix_some : PrefixIs (rule_of B p) (question_of stored Q) c n (record { met = true; rewriting = R })
+          pub prefix_some : PrefixIs (rule_of B p) (question_of stored Q) c n (Some R)
           prefix_some =
               record {
                 choice = b.choice;
                 among = whole_choice b.choice b.among;
                 place = whole_place b.choice b.place;
                 is =
-                    ap (λ (x : List ℕ). record { met = true; rewriting = x })
+                    ap Some
                     (w.bytes ∙ ap (held_in stored record_room) same)
                     ∙ ap settled_of (sym settled_is);
                 fits = λ X y.

@@ -1,5 +1,6 @@
 -- The first digits of a choice, and what they settle of every choice that has them, as the code holds it.
-use Rattle.std.specs.Prelude.{◌≡◌, Bool, true, false, not, cond, List, [], ◌∷◌, ◌++◌, ℕ, ◌≤◌, eqb, leb, length, get_or, take, drop, replicate}
+use Rattle.std.specs.Prelude.{◌≡◌, Bool, true, false, not, cond, List, [], ◌∷◌, ◌++◌, ℕ, ◌≤◌, eqb, leb, length, get_or, take, drop, Some, None}
+use Rattle.std.specs.Prelude.{Option as Answer}
 use Rattle.std.proofs.Math.Option.{Option, none, some}
 use Rattle.covering.specs.Lists.{◌∈◌, bind, keep, any}
 use Rattle.covering.specs.Term.{Question, var}
@@ -7,13 +8,12 @@ use Rattle.covering.specs.Record.{stored, atom_at, question_of, Fits}
 use Rattle.covering.specs.Buffer.{held_in, AtomIn, record_room}
 use Rattle.covering.specs.Rule.{Rule}
 use Rattle.book.specs.declared.Parts.{Parts}
-use Rattle.lister.specs.declared.Settled.{Settled}
 use Rattle.unification.specs.Classes.{unify}
 use Rattle.unification.specs.Choice.{Choice, number, choices, left, pairing}
 use Rattle.unification.specs.Step.{move, rewriting}
-use Rattle.unify.specs.InBytes.{in_book, classes_of, merged}
+use Rattle.unify.specs.InBytes.{in_book, rule_of, classes_of, merged}
 use Rattle.unify.specs.Table.{unify_table}
-use Rattle.lister.specs.Listing.{rule_of, RuleIn, LeftIn, ClassesFit}
+use Rattle.lister.specs.Listing.{RuleIn, LeftIn, ClassesFit}
 
 -- the atoms of Q with the relation of no atom of H, which no choice sends there
 abbrev pub unmet : Question → Question → Question
@@ -31,12 +31,12 @@ settled k r Q p ds =
     (λ σ. cond (leb (length (surely_left r Q p ds)) 8) (some (rewriting σ (surely_left r Q p ds) (move k r))) none)
 
 -- how the code holds it
-abbrev pub settled_of : Option Question → Settled
-settled_of none = record { met = false; rewriting = replicate record_room 255 }
-settled_of (some X) = record { met = true; rewriting = held_in stored record_room X }
+abbrev pub settled_of : Option Question → Answer (List ℕ)
+settled_of none = None
+settled_of (some X) = Some (held_in stored record_room X)
 
 -- what the first p digits of the choice with number c settle of the question Q
-pub record PrefixIs (r : Rule) (Q : Question) (c p : ℕ) (x : Settled) : Type 0 where
+pub record PrefixIs (r : Rule) (Q : Question) (c p : ℕ) (x : Answer (List ℕ)) : Type 0 where
   pub choice : Choice
   pub among : choice ∈ choices (length r.head) (length Q)
   pub place : number (length r.head) choice ≡ c

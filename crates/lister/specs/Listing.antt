@@ -1,28 +1,22 @@
--- What the lister is asked and what it answers, as the code holds it. The contract of `next` needs `FoundIs`, `rule_of`
+-- What the lister is asked and what it answers, as the code holds it. The contract of `next` needs `FoundIs`
 -- and what is asked of the rule and the question; the others are the functions' own.
-use Rattle.std.specs.Prelude.{◌≡◌, Bool, true, false, List, ℕ, suc, ◌+◌, ◌*◌, ◌≤◌, ◌<◌, T, length, get_or}
+use Rattle.std.specs.Prelude.{◌≡◌, Bool, true, false, List, ℕ, suc, ◌+◌, ◌*◌, ◌≤◌, ◌<◌, T, length, get_or, Some, None}
+use Rattle.std.specs.Prelude.{Option as Answer}
 use Rattle.std.proofs.Math.Option.{Option, none, some}
 use Rattle.covering.specs.Lists.{◌∈◌}
 use Rattle.covering.specs.Term.{Term, Question}
 use Rattle.covering.specs.Record.{stored, question_of, are_atoms, TermFits, Fits}
 use Rattle.covering.specs.Buffer.{held_in, AtomsIn, record_room}
-use Rattle.covering.specs.Rule.{Rule}
 use Rattle.book.specs.declared.Parts.{Parts}
-use Rattle.lister.specs.declared.Found.{Found}
-use Rattle.lister.specs.Counts.{most_choices, CountsFor}
+use Rattle.lister.specs.Counts.{most_choices}
 use Rattle.lister.specs.Leaving.{left_by, any_sent}
 use Rattle.unification.specs.Choice.{count}
-use Rattle.unify.specs.InBytes.{in_book, rule_in, classes_of}
-use Rattle.unify.specs.Unknowns.{has_unknowns}
-
--- the rule of these parts
-abbrev pub rule_of : List ℕ → Parts → Rule
-rule_of B p = rule_in B p.body p.bodies p.head p.heads
+use Rattle.unify.specs.InBytes.{in_book, classes_of}
 
 -- what an answer says: the choice's number, or nothing
-abbrev pub found_of : Option (ℕ × Question) → Found
-found_of none = record { found = false; choice = 0 }
-found_of (some e) = record { found = true; choice = e.0 }
+abbrev pub found_of : Option (ℕ × Question) → Answer ℕ
+found_of none = None
+found_of (some e) = Some e.0
 
 -- what the room lent for the rewriting, which came as X, then holds: its record, or X still
 abbrev pub room_of : Option (ℕ × Question) → List ℕ → List ℕ
@@ -30,17 +24,8 @@ room_of none X = X
 room_of (some e) X = held_in stored record_room e.1
 
 -- the answer r and the room Y tell what was sought
-pub record FoundIs (sought : Option (ℕ × Question)) (X : List ℕ) (r : Found) (Y : List ℕ) : Type 0 where
+pub record FoundIs (sought : Option (ℕ × Question)) (X : List ℕ) (r : Answer ℕ) (Y : List ℕ) : Type 0 where
   pub answer : r ≡ found_of sought
-  pub room : Y ≡ room_of sought X
-
--- the same answer as the builder's functions give it, one number: 0 for nothing, else one more than the choice's
-abbrev pub told_of : Option (ℕ × Question) → ℕ
-told_of none = 0
-told_of (some e) = suc e.0
-
-pub record ToldIs (sought : Option (ℕ × Question)) (X : List ℕ) (r : ℕ) (Y : List ℕ) : Type 0 where
-  pub answer : r ≡ told_of sought
   pub room : Y ≡ room_of sought X
 
 -- a rule of a sound book: sound atoms, one to four in its head and at most four in its body
@@ -95,13 +80,8 @@ pub record Asks (Q B : List ℕ) (p : Parts) (i more number : ℕ) (sent : Bool)
   pub size : length table ≡ 96
   pub classes : ClassesFit table
 
--- the same as the code holds it: the atoms passed, those of them that are sent by a bit for each, the row of counts, and
--- whether the rule has existential variables
-pub record Builds (Q B : List ℕ) (p : Parts) (row : List ℕ) (unknowns : Bool) (passed more number sent : ℕ)
-    (table : List ℕ) : Type 0 where
+-- the same as the code holds it: the atoms passed, and those of them that are sent by a bit for each
+pub record Builds (Q B : List ℕ) (p : Parts) (passed more number sent : ℕ) (table : List ℕ) : Type 0 where
   pub asks : Asks Q B p (1 + passed * 7) more number (any_sent sent) (left_by Q passed sent) table
-  pub question : QuestionIn Q
   pub all : passed + more ≡ get_or Q 0 0
   pub bits : sent ≤ number
-  pub counts : CountsFor p.heads row
-  pub told : unknowns ≡ has_unknowns (rule_of B p)

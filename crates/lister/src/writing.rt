@@ -7,31 +7,27 @@ ghost use Rattle.covering.specs.Buffer.{held_in, AtomsIn, record_room};
 ghost use Rattle.forming.specs.Building.{sub_of};
 ghost use Rattle.unification.specs.Step.{move, rewriting as rewriting_of};
 ghost use Rattle.unify.specs.Table.{tabled};
-ghost use Rattle.unify.specs.InBytes.{in_book, classes_of};
-ghost use Rattle.lister.specs.Listing.{rule_of, RuleIn, LeftIn, ClassesFit, Filling, UpperHalf, Written};
+ghost use Rattle.unify.specs.InBytes.{in_book, rule_of, classes_of};
+ghost use Rattle.lister.specs.Listing.{RuleIn, LeftIn, ClassesFit, Filling, UpperHalf, Written};
 
-use crate::classes::copied;
-use book::Parts;
 use covering::RECORD;
 use forming::{in_form, no_atoms, put_on};
+use unify::Rule;
 
 // What stands for the rule's variables: the upper half of the classes, moved down by 48.
 fn upper_half(table: &[u8; 96]) -> [u8; 96]
     ensures { UpperHalf table.now result }
 {
-    let mut upper = copied(table);
-    let mut i = 0;
-    while i < 48 {
+    let mut upper = *table;
+    for i in 0..48 {
         upper[i] = table[i + 48];
-        i += 1;
     }
     upper
 }
 
 // Puts the n atoms of from that start at i after the record's own, each variable replaced by what the table has.
-fn put_all(kept: &mut [u8], table: &[u8], from: &[u8], i: usize, n: usize)
+fn put_all(kept: &mut [u8; RECORD], table: &[u8; 96], from: &[u8], i: usize, n: usize)
     requires { Filling kept.old n
-        × (length table.now ≡ 96)
         × AtomsIn in_book from.now i n
         × ClassesFit table.now }
     ensures { kept.new
@@ -41,52 +37,41 @@ fn put_all(kept: &mut [u8], table: &[u8], from: &[u8], i: usize, n: usize)
         (question_of stored kept.old
         ++ on_question (sub_of table.now) (atoms_at stored from.now i n)) }
 {
-    let mut at = i;
-    let mut left = n;
-    while 0 < left {
-        put_on(kept, table, from, at);
-        at += 7;
-        left -= 1;
+    for k in 0..n {
+        put_on(kept, table, from, i + k * 7);
     }
 }
 
 // The left atoms and the rule's body, each class replaced by what stands for it.
-pub fn replaced(left: &[u8; RECORD], book: &[u8], rule: Parts, table: &[u8; 96]) -> [u8; RECORD]
-    requires { LeftIn left.now × (get_or left.now 0 0 ≤ 8) × RuleIn book.now rule × ClassesFit table.now }
+pub fn replaced(left: &[u8; RECORD], rule: &Rule<'_>, table: &[u8; 96]) -> [u8; RECORD]
+    requires { LeftIn left.now × (get_or left.now 0 0 ≤ 8) × RuleIn rule.now.book.now rule.now.parts × ClassesFit table.now }
     ensures { Written
         (rewriting_of
         (tabled (classes_of table.now))
         (question_of stored left.now)
-        (move 48 (rule_of book.now rule)))
+        (move 48 (rule_of rule.now.book.now rule.now.parts)))
         result }
 {
-    let n = left[0] as usize;
-    let body = rule.body;
-    let bodies = rule.bodies;
+    let n = usize::from(left[0]);
+    let parts = rule.parts;
     let mut whole = no_atoms();
     put_all(&mut whole, table, left, 1, n);
     let upper = upper_half(table);
-    put_all(&mut whole, &upper, book, body, bodies);
+    put_all(&mut whole, &upper, rule.book, parts.body, parts.bodies);
     whole
 }
 
 // Writes the rewriting of the left atoms and the rule's body by the classes to the room lent.
-pub fn put_rewriting(
-    left: &[u8; RECORD],
-    book: &[u8],
-    rule: Parts,
-    table: &[u8; 96],
-    out: &mut [u8; RECORD],
-)
-    requires { LeftIn left.now × (get_or left.now 0 0 ≤ 8) × RuleIn book.now rule × ClassesFit table.now }
+pub fn put_rewriting(left: &[u8; RECORD], rule: &Rule<'_>, table: &[u8; 96], out: &mut [u8; RECORD])
+    requires { LeftIn left.now × (get_or left.now 0 0 ≤ 8) × RuleIn rule.now.book.now rule.now.parts × ClassesFit table.now }
     ensures { out.new
         ≡ held_in stored record_room
         (form
         (rewriting_of
         (tabled (classes_of table.now))
         (question_of stored left.now)
-        (move 48 (rule_of book.now rule)))) }
+        (move 48 (rule_of rule.now.book.now rule.now.parts)))) }
 {
-    let whole = replaced(left, book, rule, table);
+    let whole = replaced(left, rule, table);
     in_form(&whole, out);
 }

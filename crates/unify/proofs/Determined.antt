@@ -5,7 +5,7 @@ use mathlib.Core.Path.{◌≡◌, sym, ◌∙◌}
 use Rattle.unify.specs.InBytes.{classes_of, merged}
 use Rattle.unify.proofs.joining.all_apart.Reads as all-apart-reads
 use Rattle.unify.proofs.joining.join_atoms.Reads as join-atoms-reads
-use Rattle.unify.proofs.judging.is_valid.Reads as is-valid-reads
+use Rattle.unify.proofs.validity.is_valid.Reads as is-valid-reads
 use Rattle.unify.proofs.unknowns.has_unknowns.Reads as has-unknowns-reads
 
 pub all_apart_determined : (κs : _) (a : _) (r s : _) (x y : _) → all-apart-reads.Learnt κs a r x

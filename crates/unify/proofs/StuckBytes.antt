@@ -5,7 +5,7 @@ use mathlib.Core.Path.{◌≡◌, refl, sym, ◌∙◌, ap, ap₂, subst}
 use mathlib.Core.Bool.{true, false, not, ◌&&◌}
 use mathlib.Core.List.Memᴰ
 use mathlib.Core.List.{List, ◌∷◌, map}
-use Prim.Native.Nat.{ℕ, ◌+◌, ◌-◌, ◌≤◌, ◌<◌}
+use Prim.Native.Nat.{ℕ, ◌+◌, ◌*◌, ◌-◌, ◌≤◌, ◌<◌}
 use native.Mathlib.Omega.{arith}
 use lib.Dec.{T, eqb→eq}
 use lib.ListN.{get_or}
@@ -14,14 +14,16 @@ use Rattle.covering.specs.Term.{Term, Atom, on_term, on_atom, on_question, terms
 use Rattle.covering.specs.Record.{stored, term_of, args_at, atom_at, atoms_at}
 use Rattle.covering.proofs.Bytes.{term_same, args_more}
 use Rattle.covering.proofs.Lists.{any_out}
-use Rattle.covering.proofs.Places.{atoms_none, atoms_more}
+use Rattle.covering.proofs.Places.{atoms_none}
 use Rattle.covering.proofs.Terms.{eq_term→eq, eq→eq_term}
 use Rattle.covering.proofs.Tests.{true→T}
 use Rattle.unification.specs.Choice.{place_pairs}
 use Rattle.unification.specs.Step.{up, move, mem_term}
+use Rattle.book.specs.declared.Parts.{Parts}
 use Rattle.unify.specs.Table.{look, tabled}
-use Rattle.unify.specs.InBytes.{rule_in, classes_of}
+use Rattle.unify.specs.InBytes.{rule_in, rule_of, classes_of}
 use Rattle.unify.specs.Stuck.{TiedTo}
+use Rattle.unify.proofs.EachTerm.{from_atom, next_atom}
 use Rattle.unify.proofs.ValidTests.{up_variable, up_mem, is_var_lem, tabled_look}
 
 mem_in : (t : Term) (ts : List Term) → mem_term t ts ≡ true → t ∈ ts
@@ -30,28 +32,28 @@ mem_in t ts e =
     subst (λ (u : Term). u ∈ ts) (sym (eq_term→eq t x.0 x.2)) x.1
 
 -- the byte z stands for t's class and for its own
-module _ (table B : List ℕ) (body bodies head heads t u z : ℕ)
+module _ (table B : List ℕ) (p : Parts) (t u z : ℕ)
     (of-t : term_of z ≡ look (classes_of table) (term_of t)) (own : term_of z ≡ look (classes_of table) (term_of z))
     (low : 48 ≤ z) (high : z < 96) (other : z ≡ u → ⊥)
-    (no_body : mem_term (term_of (z - 48)) (terms (atoms_at stored B body bodies)) ≡ false)
-    (in_head : mem_term (term_of (z - 48)) (terms (atoms_at stored B head heads)) ≡ true)
+    (no_body : mem_term (term_of (z - 48)) (terms (atoms_at stored B p.body p.bodies)) ≡ false)
+    (in_head : mem_term (term_of (z - 48)) (terms (atoms_at stored B p.head p.heads)) ≡ true)
   where
     moved_up : term_of z ≡ on_term (up 48) (term_of (z - 48))
     moved_up =
         let e : 48 + (z - 48) ≡ z = omega arith in
         ap term_of (sym e) ∙ up_variable 48 (z - 48) (omega arith)
 
-    pub tied_means : TiedTo (tabled (classes_of table)) (move 48 (rule_in B body bodies head heads)) (term_of t) (term_of u)
+    pub tied_means : TiedTo (tabled (classes_of table)) (move 48 (rule_of B p)) (term_of t) (term_of u)
     unfolding rule_in
     tied_means =
         record {
           unknown = term_of z;
           in_head =
-              mem_in (term_of z) (terms (on_question (up 48) (atoms_at stored B head heads)))
-              (ap (λ (x : Term). mem_term x (terms (on_question (up 48) (atoms_at stored B head heads)))) moved_up
-              ∙ up_mem 48 (term_of (z - 48)) (atoms_at stored B head heads)
+              mem_in (term_of z) (terms (on_question (up 48) (atoms_at stored B p.head p.heads)))
+              (ap (λ (x : Term). mem_term x (terms (on_question (up 48) (atoms_at stored B p.head p.heads)))) moved_up
+              ∙ up_mem 48 (term_of (z - 48)) (atoms_at stored B p.head p.heads)
               ∙ in_head);
-          it_is_unknown = true→T (is_var (term_of z) && not (mem_term (term_of z) (terms (on_question (up 48) (atoms_at stored B body bodies))))) (rw (is_var_lem z (omega arith), no_moved));
+          it_is_unknown = true→T (is_var (term_of z) && not (mem_term (term_of z) (terms (on_question (up 48) (atoms_at stored B p.body p.bodies))))) (rw (is_var_lem z (omega arith), no_moved));
           same =
               tabled_look (classes_of table) (term_of t)
               ∙ sym of-t
@@ -60,10 +62,10 @@ module _ (table B : List ℕ) (body bodies head heads t u z : ℕ)
           other = λ e. other (sym (eqb→eq u z (subst T (term_same u z) (eq→eq_term e))));
         }
       where
-        no_moved : mem_term (term_of z) (terms (on_question (up 48) (atoms_at stored B body bodies))) ≡ false
+        no_moved : mem_term (term_of z) (terms (on_question (up 48) (atoms_at stored B p.body p.bodies))) ≡ false
         no_moved =
-            ap (λ (x : Term). mem_term x (terms (on_question (up 48) (atoms_at stored B body bodies)))) moved_up
-            ∙ up_mem 48 (term_of (z - 48)) (atoms_at stored B body bodies)
+            ap (λ (x : Term). mem_term x (terms (on_question (up 48) (atoms_at stored B p.body p.bodies)))) moved_up
+            ∙ up_mem 48 (term_of (z - 48)) (atoms_at stored B p.body p.bodies)
             ∙ no_body
 
 -- all of the one list are among the other
@@ -86,19 +88,19 @@ pub pairs_more : (Q B : List ℕ) (i k j w : ℕ) → j < w → (get_or Q (i + j
 pairs_more Q B i k j w lt a b =
     ap₂ (λ ts us. place_pairs ts (map (on_term (up 48)) us)) (args_more Q i j w lt a) (args_more B k j w lt b)
 
--- the head atoms from k on, the first of them taken: what holds of it and of those after it holds of all
-module _ (P : Atom → Type 0) (B : List ℕ) (k n : ℕ) where
-  abbrev pub Each : ℕ → ℕ → Type 0
-  Each i m = (b : Atom) → b ∈ on_question (up 48) (atoms_at stored B i m) → P b
+-- the head atoms from i on, of which k of n are passed: what holds of the next and of those after it holds of all
+module _ (P : Atom → Type 0) (B : List ℕ) (i n : ℕ) where
+  abbrev pub Each : ℕ → Type 0
+  Each k = (b : Atom) → b ∈ on_question (up 48) (from_atom B i n k) → P b
 
-  pub each_none : n ≡ 0 → Each k n
-  each_none e b m =
-      absurd (Memᴰ.not-nil (subst (λ (A : List Atom). b ∈ map (on_atom (up 48)) A) (atoms_none stored B k n e) m))
+  pub each_none : (k : ℕ) → n ≤ k → Each k
+  each_none k h b m =
+      absurd (Memᴰ.not-nil (subst (λ (A : List Atom). b ∈ map (on_atom (up 48)) A) (atoms_none stored B (i + k * 7) (n - k) (omega arith)) m))
 
-  pub each_more : 0 < n → P (on_atom (up 48) (atom_at stored B k)) → Each (k + 7) (n - 1) → Each k n
-  each_more h p f b m =
-      go (subst (λ (A : List Atom). b ∈ map (on_atom (up 48)) A) (atoms_more stored B k n h) m)
+  pub each_more : (k : ℕ) → k < n → P (on_atom (up 48) (atom_at stored B (i + k * 7))) → Each (k + 1) → Each k
+  each_more k h p f b m =
+      go (subst (λ (A : List Atom). b ∈ map (on_atom (up 48)) A) (next_atom B i n k h) m)
     where
-      go : b ∈ on_atom (up 48) (atom_at stored B k) ∷ on_question (up 48) (atoms_at stored B (k + 7) (n - 1)) → P b
+      go : b ∈ on_atom (up 48) (atom_at stored B (i + k * 7)) ∷ on_question (up 48) (from_atom B i n (k + 1)) → P b
       go (Memᴰ.head e) = subst P (sym e) p
-      go (Memᴰ.tail i) = f b i
+      go (Memᴰ.tail j) = f b j

@@ -133,9 +133,8 @@ module _ (m : Table) (k : ℕ) (L : Question) (r : Rule) (z rep : Term) (is : re
 abbrev pub allowed_term : Sub → Question → Rule → Term → Bool
 allowed_term σ L r z = not (is_unknown r z) || safe σ (guarded L r) z
 
-abbrev pub allowed_byte : List ℕ → List ℕ → ℕ → ℕ → ℕ → ℕ → List ℕ → Term → Bool
-allowed_byte left book body bodies head heads table =
-    allowed_term (tabled (classes_of table)) (left_in left) (move 48 (rule_in book body bodies head heads))
+abbrev pub allowed_byte : List ℕ → Rule → List ℕ → Term → Bool
+allowed_byte left r table = allowed_term (tabled (classes_of table)) (left_in left) (move 48 r)
 
 -- a head term t of a rule that is moved by k: in the order of the tests
 module _ (k : ℕ) (r : Rule) (t : Term) (σ : Sub) (L : Question) where

@@ -18,8 +18,7 @@ pub fn moved(u: u8) -> u8
 }
 
 // The term that stands for t's class.
-pub fn stands_for(table: &[u8], t: u8) -> u8
-    requires { length table.now ≡ 96 }
+pub fn stands_for(table: &[u8; 96], t: u8) -> u8
     ensures { term_of result ≡ look (classes_of table.now) (term_of t) }
 {
     if t < 96 {

@@ -36,20 +36,17 @@ fn put_for(x: u8, v: u8, b: u8) -> u8
 }
 
 // Wherever the variable v stands for a class, b stands for it from now on.
-fn replaced(table: &mut [u8], v: u8, b: u8)
-    requires { (length table.old ≡ 96) × (v < 128) }
+fn replaced(table: &mut [u8; 96], v: u8, b: u8)
+    requires { v < 128 }
     ensures { classes_of table.new ≡ map (point v (term_of b)) (classes_of table.old) }
 {
-    let mut i = 0;
-    while i < 96 {
+    for i in 0..96 {
         table[i] = put_for(table[i], v, b);
-        i += 1;
     }
 }
 
 // The classes that a and b stand for become one, a constant standing for it; two constants are never one.
-fn join(table: &mut [u8], a: u8, b: u8) -> bool
-    requires { length table.old ≡ 96 }
+fn join(table: &mut [u8; 96], a: u8, b: u8) -> bool
     ensures { merged result table.new ≡ join_table (classes_of table.old) (term_of a) (term_of b) }
 {
     if a == b {
@@ -68,18 +65,16 @@ fn join(table: &mut [u8], a: u8, b: u8) -> bool
 
 // The used places of the question from i on are put with those of the head from k on, which are moved up: as many, each
 // with its own.
-fn join_places(question: &[u8], book: &[u8], i: usize, k: usize, table: &mut [u8]) -> bool
+fn join_places(question: &[u8], book: &[u8], i: usize, k: usize, table: &mut [u8; 96]) -> bool
     requires { (i + 6 ≤ length question.now)
         × (k + 6 ≤ length book.now)
-        × T (used_first in_book book.now k 6)
-        × (length table.old ≡ 96) }
+        × T (used_first in_book book.now k 6) }
     ensures { merged result table.new
         ≡ unify_table
         (place_pairs (args_at question.now i 6) (map (on_term (up 48)) (args_at book.now k 6)))
         (classes_of table.old) }
 {
-    let mut j = 0;
-    while j < 6 {
+    for j in 0..6 {
         let t = question[i + j];
         let u = book[k + j];
         if t == 255 {
@@ -93,17 +88,15 @@ fn join_places(question: &[u8], book: &[u8], i: usize, k: usize, table: &mut [u8
         if !join(table, a, b) {
             return false;
         }
-        j += 1;
     }
     true
 }
 
 // The question atom at i is put on the head atom at k of the book. Atoms of two relations cost two bytes read.
-pub fn join_atoms(question: &[u8], book: &[u8], i: usize, k: usize, table: &mut [u8]) -> bool
+pub fn join_atoms(question: &[u8], book: &[u8], i: usize, k: usize, table: &mut [u8; 96]) -> bool
     requires { (i + 7 ≤ length question.now)
         × (k + 7 ≤ length book.now)
-        × T (is_atom in_book book.now k)
-        × (length table.old ≡ 96) }
+        × T (is_atom in_book book.now k) }
     ensures { merged result table.new
         ≡ unify_table
         (atom_pairs (atom_at stored question.now i) (on_atom (up 48) (atom_at stored book.now k)))

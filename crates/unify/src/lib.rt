@@ -3,13 +3,22 @@
 // classes are over 96 variables: 96 bytes, at each variable's number the byte of the term that stands for its class.
 #![tactic(auto)]
 
+use book::Parts;
+
 mod byte;
 mod joining;
-mod judging;
 mod stuck;
 mod unknowns;
+mod validity;
 
 pub use joining::{all_apart, join_atoms};
-pub use judging::is_valid;
 pub use stuck::some_stuck;
 pub use unknowns::has_unknowns;
+pub use validity::is_valid;
+
+// A rule where it stands: its book, and where in it the body and the head are.
+#[derive(Clone, Copy)]
+pub struct Rule<'a> {
+    pub book: &'a [u8],
+    pub parts: Parts,
+}

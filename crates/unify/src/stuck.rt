@@ -9,30 +9,21 @@ ghost use Rattle.unification.specs.Classes.{Pair};
 ghost use Rattle.unification.specs.Choice.{place_pairs};
 ghost use Rattle.unification.specs.Step.{up, move};
 ghost use Rattle.unify.specs.Table.{tabled};
-ghost use Rattle.unify.specs.InBytes.{in_book, rule_in, classes_of};
+ghost use Rattle.unify.specs.InBytes.{in_book, rule_of, classes_of};
 ghost use Rattle.unify.specs.Stuck.{TiedTo, Barred, Stuck};
 
+use crate::Rule;
 use crate::byte::{moved, stands_for};
-use crate::judging::in_atoms;
+use crate::validity::in_atoms;
 
 // Whether an existential variable other than u stands for the class of t.
-fn tied_to(
-    book: &[u8],
-    body: usize,
-    bodies: usize,
-    head: usize,
-    heads: usize,
-    table: &[u8],
-    t: u8,
-    u: u8,
-) -> bool
-    requires { (body + bodies * 7 ≤ length book.now)
-        × (head + heads * 7 ≤ length book.now)
-        × (length table.now ≡ 96) }
+fn tied_to(rule: &Rule<'_>, table: &[u8; 96], t: u8, u: u8) -> bool
+    requires { (rule.now.parts.body + rule.now.parts.bodies * 7 ≤ length rule.now.book.now)
+        × (rule.now.parts.head + rule.now.parts.heads * 7 ≤ length rule.now.book.now) }
     ensures { result ≡ true
         → TiedTo
         (tabled (classes_of table.now))
-        (move 48 (rule_in book.now body bodies head heads))
+        (move 48 (rule_of rule.now.book.now rule.now.parts))
         (term_of t)
         (term_of u) }
 {
@@ -50,207 +41,134 @@ fn tied_to(
         return false;
     }
     let v = z - 48;
-    if in_atoms(book, body, bodies, v) {
+    if in_atoms(rule.book, rule.parts.body, rule.parts.bodies, v) {
         return false;
     }
-    in_atoms(book, head, heads, v)
+    in_atoms(rule.book, rule.parts.head, rule.parts.heads, v)
 }
 
 // Whether a term in the used places of the question from i on is in the class of an existential variable: then the atom
 // cannot be left.
-fn tied_places(
-    question: &[u8],
-    book: &[u8],
-    body: usize,
-    bodies: usize,
-    head: usize,
-    heads: usize,
-    table: &[u8],
-    i: usize,
-) -> bool
-    requires { (body + bodies * 7 ≤ length book.now)
-        × (head + heads * 7 ≤ length book.now)
-        × (length table.now ≡ 96)
+fn tied_places(question: &[u8], rule: &Rule<'_>, table: &[u8; 96], i: usize) -> bool
+    requires { (rule.now.parts.body + rule.now.parts.bodies * 7 ≤ length rule.now.book.now)
+        × (rule.now.parts.head + rule.now.parts.heads * 7 ≤ length rule.now.book.now)
         × (i + 6 ≤ length question.now) }
     ensures { result ≡ true
         → (t : Term)
         × (t ∈ args_at question.now i 6)
         × TiedTo
         (tabled (classes_of table.now))
-        (move 48 (rule_in book.now body bodies head heads))
+        (move 48 (rule_of rule.now.book.now rule.now.parts))
         t
         t }
 {
-    let mut j = 0;
-    while j < 6 {
+    for j in 0..6 {
         let t = question[i + j];
         if t == 255 {
             return false;
         }
-        if tied_to(book, body, bodies, head, heads, table, t, t) {
+        if tied_to(rule, table, t, t) {
             return true;
         }
-        j += 1;
     }
     false
 }
 
 // Whether such a term would meet another term than that variable, were the places of the question from i on put with
 // those of the head from k on: then the atom cannot be sent there.
-fn barred_places(
-    question: &[u8],
-    book: &[u8],
-    body: usize,
-    bodies: usize,
-    head: usize,
-    heads: usize,
-    table: &[u8],
-    i: usize,
-    k: usize,
-) -> bool
-    requires { (body + bodies * 7 ≤ length book.now)
-        × (head + heads * 7 ≤ length book.now)
-        × (length table.now ≡ 96)
+fn barred_places(question: &[u8], rule: &Rule<'_>, table: &[u8; 96], i: usize, k: usize) -> bool
+    requires { (rule.now.parts.body + rule.now.parts.bodies * 7 ≤ length rule.now.book.now)
+        × (rule.now.parts.head + rule.now.parts.heads * 7 ≤ length rule.now.book.now)
         × (i + 6 ≤ length question.now)
-        × (k + 6 ≤ length book.now)
-        × T (used_first in_book book.now k 6) }
+        × (k + 6 ≤ length rule.now.book.now)
+        × T (used_first in_book rule.now.book.now k 6) }
     ensures { result ≡ true
         → (p : Pair)
         × (p
-        ∈ place_pairs (args_at question.now i 6) (map (on_term (up 48)) (args_at book.now k 6)))
+        ∈ place_pairs (args_at question.now i 6) (map (on_term (up 48)) (args_at rule.now.book.now k 6)))
         × TiedTo
         (tabled (classes_of table.now))
-        (move 48 (rule_in book.now body bodies head heads))
+        (move 48 (rule_of rule.now.book.now rule.now.parts))
         p.0
         p.1 }
 {
-    let mut j = 0;
-    while j < 6 {
+    for j in 0..6 {
         let t = question[i + j];
-        let u = book[k + j];
+        let u = rule.book[k + j];
         if t == 255 {
             return false;
         }
         if u == 255 {
             return false;
         }
-        if tied_to(book, body, bodies, head, heads, table, t, moved(u)) {
+        if tied_to(rule, table, t, moved(u)) {
             return true;
         }
-        j += 1;
     }
     false
 }
 
 // Whether the atom of the question at i cannot be sent to the head atom at k.
-fn is_barred(
-    question: &[u8],
-    book: &[u8],
-    body: usize,
-    bodies: usize,
-    head: usize,
-    heads: usize,
-    table: &[u8],
-    i: usize,
-    k: usize,
-) -> bool
-    requires { (body + bodies * 7 ≤ length book.now)
-        × (head + heads * 7 ≤ length book.now)
-        × (length table.now ≡ 96)
+fn is_barred(question: &[u8], rule: &Rule<'_>, table: &[u8; 96], i: usize, k: usize) -> bool
+    requires { (rule.now.parts.body + rule.now.parts.bodies * 7 ≤ length rule.now.book.now)
+        × (rule.now.parts.head + rule.now.parts.heads * 7 ≤ length rule.now.book.now)
         × (i + 7 ≤ length question.now)
-        × (k + 7 ≤ length book.now)
-        × T (is_atom in_book book.now k) }
+        × (k + 7 ≤ length rule.now.book.now)
+        × T (is_atom in_book rule.now.book.now k) }
     ensures { result ≡ true
         → Barred
         (tabled (classes_of table.now))
-        (move 48 (rule_in book.now body bodies head heads))
+        (move 48 (rule_of rule.now.book.now rule.now.parts))
         (atom_at stored question.now i)
-        (on_atom (up 48) (atom_at stored book.now k)) }
+        (on_atom (up 48) (atom_at stored rule.now.book.now k)) }
 {
-    if question[i] != book[k] {
+    if question[i] != rule.book[k] {
         return true;
     }
-    barred_places(
-        question,
-        book,
-        body,
-        bodies,
-        head,
-        heads,
-        table,
-        i + 1,
-        k + 1,
-    )
+    barred_places(question, rule, table, i + 1, k + 1)
 }
 
 // Whether it can neither be left nor sent.
-fn is_stuck(
-    question: &[u8],
-    book: &[u8],
-    body: usize,
-    bodies: usize,
-    head: usize,
-    heads: usize,
-    table: &[u8],
-    i: usize,
-) -> bool
-    requires { (body + bodies * 7 ≤ length book.now)
-        × AtomsIn in_book book.now head heads
-        × (length table.now ≡ 96)
+fn is_stuck(question: &[u8], rule: &Rule<'_>, table: &[u8; 96], i: usize) -> bool
+    requires { (rule.now.parts.body + rule.now.parts.bodies * 7 ≤ length rule.now.book.now)
+        × AtomsIn in_book rule.now.book.now rule.now.parts.head rule.now.parts.heads
         × (i + 7 ≤ length question.now) }
     ensures { result ≡ true
         → Stuck
         (tabled (classes_of table.now))
-        (move 48 (rule_in book.now body bodies head heads))
+        (move 48 (rule_of rule.now.book.now rule.now.parts))
         (atom_at stored question.now i) }
 {
-    if !tied_places(question, book, body, bodies, head, heads, table, i + 1) {
+    if !tied_places(question, rule, table, i + 1) {
         return false;
     }
-    let mut k = head;
-    let mut more = heads;
-    while 0 < more {
-        if !is_barred(question, book, body, bodies, head, heads, table, i, k) {
+    let parts = rule.parts;
+    for n in 0..parts.heads {
+        let k = parts.head + n * 7;
+        if !is_barred(question, rule, table, i, k) {
             return false;
         }
-        k += 7;
-        more -= 1;
     }
     true
 }
 
 // Whether one of the n atoms of the question from i on is stuck.
-pub fn some_stuck(
-    question: &[u8],
-    book: &[u8],
-    body: usize,
-    bodies: usize,
-    head: usize,
-    heads: usize,
-    table: &[u8],
-    i: usize,
-    n: usize,
-) -> bool
-    requires { (body + bodies * 7 ≤ length book.now)
-        × AtomsIn in_book book.now head heads
-        × (length table.now ≡ 96)
+pub fn some_stuck(question: &[u8], rule: &Rule<'_>, table: &[u8; 96], i: usize, n: usize) -> bool
+    requires { (rule.now.parts.body + rule.now.parts.bodies * 7 ≤ length rule.now.book.now)
+        × AtomsIn in_book rule.now.book.now rule.now.parts.head rule.now.parts.heads
         × (i + n * 7 ≤ length question.now) }
     ensures { result ≡ true
         → (a : Atom)
         × (a ∈ atoms_at stored question.now i n)
         × Stuck
         (tabled (classes_of table.now))
-        (move 48 (rule_in book.now body bodies head heads))
+        (move 48 (rule_of rule.now.book.now rule.now.parts))
         a }
 {
-    let mut at = i;
-    let mut more = n;
-    while 0 < more {
-        if is_stuck(question, book, body, bodies, head, heads, table, at) {
+    for k in 0..n {
+        if is_stuck(question, rule, table, i + k * 7) {
             return true;
         }
-        at += 7;
-        more -= 1;
     }
     false
 }

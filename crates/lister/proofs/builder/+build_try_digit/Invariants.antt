@@ -13,8 +13,8 @@ abbrev pub decreases-try_digit : goal.decreases-try_digit
 decreases-try_digit l = l.more * 2 - 1
 
 abbrev pub invariant-build-loop-d : goal.invariant-build-loop-d
-invariant-build-loop-d l = Reached l.question l.book l.rule l.from (1 + l.passed * 7) l.more l.number (any_sent l.sent) (left_by l.question l.passed l.sent) l.table l.heads l.d
+invariant-build-loop-d l =
+    let Q = l.asked.question.now in
+    let r = l.asked.rule in
+    Reached Q r.book.now r.parts l.asked.from (1 + l.passed * 7) l.more l.number (any_sent l.sent) (left_by Q l.passed l.sent) l.table l.d
     × (l.out ≡ l.initial.out)
-
-abbrev pub decreases-build-loop-d : goal.decreases-build-loop-d
-decreases-build-loop-d l = l.heads + 1 - l.d

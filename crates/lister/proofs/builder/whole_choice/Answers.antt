@@ -1,15 +1,15 @@
 -- `lister::builder::whole_choice` meets its contract: nothing before the start or where it is not valid, else the rewriting
 -- of the choice.
 use native.Mathlib.Omega.{arith}
-use mathlib.Core.Path.{sym, ◌∙◌, ap, subst}
+use mathlib.Core.Path.{refl, sym, ◌∙◌, ap, subst}
 use lib.ListN.{get_or}
 use Prim.Native.Nat.{◌≤◌}
 use Rattle.covering.specs.Form.{form}
 use Rattle.covering.specs.Record.{question_of, stored}
 use Rattle.covering.specs.Buffer.{held_in, record_room}
-use Rattle.unify.specs.InBytes.{classes_of}
+use Rattle.unify.specs.InBytes.{rule_of, classes_of}
 use Rattle.lister.specs.Leaving.{left_by}
-use Rattle.lister.specs.Listing.{rule_of, LeftIn}
+use Rattle.lister.specs.Listing.{LeftIn}
 use Rattle.lister.proofs.Build.{since_early}
 use Rattle.lister.proofs.Prefixes.{judged_yes, judged_no}
 use Rattle.lister.proofs.Answers.{told_same, told_none}
@@ -18,32 +18,31 @@ use Rattle.unification.specs.Step.{move, valid, judge, rewriting as rewriting_of
 use Rattle.unify.specs.Table.{tabled}
 use Rattle.lister.proofs.builder.whole_choice.Goals as goal
 
-pub returns-then-number-from : goal.returns-then-number-from
-returns-then-number-from c =
+pub returns-then-number-asked : goal.returns-then-number-asked
+returns-then-number-asked c =
     let a = c.args in
-    let r = move 48 (rule_of a.book.now a.rule) in
-    let A = question_of stored (left_by a.question.now a.n a.sent) in
+    let r = move 48 (rule_of a.asked.now.rule.book.now a.asked.now.rule.parts) in
+    let A = question_of stored (left_by a.asked.now.question.now a.n a.sent) in
     told_none
-    (since_early a.from a.number (judge A r (tabled (classes_of a.table.now))) (omega (arith, c.if-number-from.true)))
+    (since_early a.asked.now.from a.number (judge A r (tabled (classes_of a.table.now))) (omega (arith, c.if-number-asked.true)))
 
 pub put_left-requires : goal.put_left-requires
-put_left-requires c = (c.no_atoms-left.ensures, c.requires.question_in.0, c.requires.question_in.1)
+put_left-requires c = (c.no_atoms-left.ensures, c.args.asked.now.question_in, c.requires.0)
 
 pub are_valid-requires : goal.are_valid-requires
 are_valid-requires c =
     let a = c.args in
-    let k = c.requires.question_in in
-    let sound = (left_sound a.question.now k.0 a.n a.sent k.1).0 in
-    (k.2, subst LeftIn (sym c.put_left.ensures) sound, k.3)
+    let sound = (left_sound a.asked.now.question.now a.asked.now.question_in a.n a.sent c.requires.0).0 in
+    subst LeftIn (sym c.put_left.ensures) sound
 
 pub returns-then-not-are_valid : goal.returns-then-not-are_valid
 returns-then-not-are_valid c =
     let a = c.args in
-    let r = move 48 (rule_of a.book.now a.rule) in
+    let r = move 48 (rule_of a.asked.now.rule.book.now a.asked.now.rule.parts) in
     let σ = tabled (classes_of a.table.now) in
-    let A = left_by a.question.now a.n a.sent in
+    let A = left_by a.asked.now.question.now a.n a.sent in
     told_none
-    (judged_no a.from a.number (question_of stored A) r σ
+    (judged_no a.asked.now.from a.number (question_of stored A) r σ
     (ap (λ L. valid σ (question_of stored L) r) (sym c.put_left.ensures)
     ∙ sym c.are_valid.ensures
     ∙ c.if-not-are_valid.true))
@@ -51,30 +50,26 @@ returns-then-not-are_valid c =
 pub put_rewriting-requires : goal.put_rewriting-requires
 put_rewriting-requires c =
     let a = c.args in
-    let k = c.requires in
-    let sound = (left_sound a.question.now k.question_in.0 a.n a.sent k.question_in.1).0 in (
+    let sound = (left_sound a.asked.now.question.now a.asked.now.question_in a.n a.sent c.requires.0).0 in (
       subst LeftIn (sym c.put_left.ensures) sound,
-      subst (λ A. get_or A 0 0 ≤ 8) (sym c.put_left.ensures) k.sent_bound.0,
-      k.question_in.2,
-      k.sent_bound.1,
+      subst (λ A. get_or A 0 0 ≤ 8) (sym c.put_left.ensures) c.requires.1,
+      a.asked.now.rule_in,
+      c.requires.2,
     )
-
-pub overflow_add-result : goal.overflow_add-result
-overflow_add-result c = omega (arith, c.requires.sent_bound.2)
 
 pub returns : goal.returns
 returns c =
     let a = c.args in
-    let r = move 48 (rule_of a.book.now a.rule) in
+    let r = move 48 (rule_of a.asked.now.rule.book.now a.asked.now.rule.parts) in
     let σ = tabled (classes_of a.table.now) in
-    let A = left_by a.question.now a.n a.sent in
+    let A = left_by a.asked.now.question.now a.n a.sent in
     let yes =
     ap (λ L. valid σ (question_of stored L) r) (sym c.put_left.ensures)
     ∙ sym c.are_valid.ensures
     ∙ c.if-not-are_valid.false in
-    told_same (sym (judged_yes a.from a.number (question_of stored A) r σ (omega (arith, c.if-number-from.false)) yes))
+    told_same (sym (judged_yes a.asked.now.from a.number (question_of stored A) r σ (omega (arith, c.if-number-asked.false)) yes))
     (record {
-      answer = omega arith;
+      answer = refl;
       room = c.put_rewriting.ensures
           ∙ ap (λ L. held_in stored record_room (form (rewriting_of σ (question_of stored L) r))) c.put_left.ensures;
     })

@@ -1,5 +1,8 @@
 -- `lister::prefix::put_digit` meets its contract: digit 0 leaves the atom, another puts it on its head atom.
+use borrow.Author.Rules.{rules}
 use native.Mathlib.Omega.{arith}
+use mathlib.Core.Path.{◌≡◌}
+use lib.ListN.{length}
 use Rattle.lister.proofs.Asked.{head_sound, room_left}
 use Rattle.lister.proofs.OneDigit.{digit_tries, put_left, put_sent}
 use Rattle.lister.proofs.prefix.put_digit.Goals as goal
@@ -16,10 +19,9 @@ join_atoms-requires c =
       f.atom.fits,
       omega (arith, f.rule.head.fits, f.small, c.if-d-eq0.false),
       head_sound (digit_tries f) (omega (arith, c.if-d-eq0.false)),
-      f.size,
     )
 
 pub returns : goal.returns
 returns c =
-    put_sent c.requires (omega (arith, c.if-d-eq0.false)) c.join_atoms.result _ c.join_atoms.ensures
-    c.join_atoms.auto.table
+    let long : length c.join_atoms.new.table ≡ length c.args.table.now = search rules in
+    put_sent c.requires (omega (arith, c.if-d-eq0.false)) c.join_atoms.result _ c.join_atoms.ensures long

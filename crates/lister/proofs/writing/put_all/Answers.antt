@@ -1,42 +1,50 @@
 -- `lister::writing::put_all` meets its contract. The loop's invariant: what is to be held is what is held already with
--- the atoms from here on, and there is room for them. The measure is their number.
+-- the atoms from here on, and there is room for them.
+use borrow.Author.Rules.{rules}
 use native.Mathlib.Omega.{arith}
-use mathlib.Core.Path.{refl, sym, ap, ◌∙◌}
+use mathlib.Core.Path.{◌≡◌, refl, sym, ap, ◌∙◌, subst}
+use Prim.Native.Nat.{◌-◌}
+use lib.ListN.{length}
 use Rattle.covering.specs.Record.{stored}
 use Rattle.covering.specs.Buffer.{held_in, record_room}
 use Rattle.forming.specs.Building.{sub_of}
-use Rattle.lister.proofs.RewritingBytes.{rest_in, first_fits, atom_on, filling_length, filling_room, filling_put}
-use Rattle.lister.proofs.RewritingBytes.{first_atom_in, put_none, put_more}
+use Rattle.unify.proofs.EachTerm.{from_first}
+use Rattle.lister.specs.Listing.{Filling}
+use Rattle.lister.proofs.RewritingBytes.{nth_in, first_fits, first_atom_in, atom_on, filling_room, filling_put, put_none, put_more}
 use Rattle.lister.proofs.writing.put_all.Goals as goal
 
-pub loop-left-init : goal.loop-left-init
-loop-left-init c = let pre = c.requires in (pre.0, pre.2, refl)
+pub loop-k-init : goal.loop-k-init
+loop-k-init c =
+    let a = c.args in
+    let room : Filling a.kept.now (a.n - 0) = subst (Filling a.kept.now) (omega arith) c.requires.0 in
+    (room, rw (from_first a.from.now a.i a.n) refl)
 
 pub put_on-requires : goal.put_on-requires
-put_on-requires c = (
-  filling_room _ _ c.loop-left.invariant.0 (omega arith),
-  c.requires.1,
-  first_atom_in _ _ _ c.loop-left.invariant.1 (omega arith),
-  atom_on c.args.table.now c.requires.3 c.requires.1 _
-      (first_fits _ _ _ c.loop-left.invariant.1 (omega arith)),
-)
-
-pub loop-left-preserved : goal.loop-left-preserved
-loop-left-preserved c =
-    let p = c.put_on in
-    let table = c.args.table.now in
-    let fit = atom_on table c.requires.3 c.requires.1 _ (first_fits _ _ _ c.loop-left.invariant.1 (omega arith)) in
-    let r = filling_put c.loop-left.kept p.new.kept c.loop-left.left _ c.loop-left.invariant.0 (omega arith) fit p.ensures in (
-      r.0,
-      rest_in _ _ _ c.loop-left.invariant.1 (omega arith),
-      c.loop-left.invariant.2
-          ∙ put_more (sub_of table) c.loop-left.kept p.new.kept _ _ c.loop-left.left (omega arith) r.1,
+put_on-requires c =
+    let a = c.args in
+    let long : length a.table.now ≡ 96 = search rules in
+    let one = nth_in a.from.now a.i a.n c.loop-k.k c.requires.1 (omega arith) in (
+      filling_room _ _ c.loop-k.invariant.0 (omega arith),
+      long,
+      first_atom_in _ _ _ one (omega arith),
+      atom_on a.table.now c.requires.2 long _ (first_fits _ _ _ one (omega arith)),
     )
 
-pub shape_of-kept : goal.shape_of-kept
-shape_of-kept c = filling_length _ _ c.loop-left.invariant.0 ∙ sym (filling_length _ _ c.requires.0)
+pub loop-k-preserved : goal.loop-k-preserved
+loop-k-preserved c =
+    let a = c.args in
+    let l = c.loop-k in
+    let p = c.put_on in
+    let table = a.table.now in
+    let long : length table ≡ 96 = search rules in
+    let one = nth_in a.from.now a.i a.n l.k c.requires.1 (omega arith) in
+    let fit = atom_on table c.requires.2 long _ (first_fits _ _ _ one (omega arith)) in
+    let r = filling_put l.kept p.new.kept (a.n - l.k) _ l.invariant.0 (omega arith) fit p.ensures in (
+      subst (Filling p.new.kept) (omega arith) r.0,
+      l.invariant.1 ∙ put_more (sub_of table) l.kept p.new.kept _ _ _ l.k (omega arith) r.1,
+    )
 
 pub returns : goal.returns
 returns c =
-    let l = c.loop-left in
-    put_none _ _ _ _ _ l.left (omega arith) l.invariant.0 ∙ ap (held_in stored record_room) (sym l.invariant.2)
+    let l = c.loop-k in
+    put_none _ _ _ _ _ l.k _ (omega arith) l.invariant.0 ∙ ap (held_in stored record_room) (sym l.invariant.1)

@@ -2,35 +2,29 @@
 use borrow.Author.Rules.{rules}
 use native.Mathlib.Omega.{arith}
 use lib.ListN.{length}
-use mathlib.Core.Path.{◌≡◌, sym, ◌∙◌}
+use mathlib.Core.Path.{◌≡◌}
+use Rattle.covering.specs.Buffer.{AtomsIn}
+use Rattle.unify.specs.InBytes.{in_book}
 use Rattle.lister.proofs.RewritingBytes.{filling_none, left_filling, whole_written}
 use Rattle.lister.proofs.Halves.{upper_fits}
 use Rattle.lister.proofs.writing.replaced.Goals as goal
 
 pub put_all-requires : goal.put_all-requires
-put_all-requires c =
-    let long : length c.args.table.now ≡ 96 = search rules in (
-      filling_none _ _ c.no_atoms-whole.ensures (omega (arith, c.requires.1)),
-      long,
-      c.requires.0.atoms,
-      c.requires.3,
-    )
-
-pub slice_bounds-put_all-end-4 : goal.slice_bounds-put_all-end-4
-slice_bounds-put_all-end-4 c =
-    let long : length c.no_atoms-whole.result ≡ 85 = search rules in
-    sym (c.put_all.auto.kept ∙ long)
+put_all-requires c = (
+  filling_none _ _ c.no_atoms-whole.ensures (omega (arith, c.from-n.ensures, c.requires.1)),
+  rw c.from-n.ensures c.requires.0.atoms,
+  c.requires.3,
+)
 
 pub put_all-requires-2 : goal.put_all-requires-2
 put_all-requires-2 c =
     let u = c.upper_half-upper in
     let a = c.args in
+    let r = a.rule.now in
     let long : length a.table.now ≡ 96 = search rules in
-    let as_long : length u.result ≡ 96 = search rules in
     let pre = c.requires in (
-      left_filling a.left.now a.book.now a.table.now u.result a.rule pre.0 pre.1 pre.2 pre.3 long
-          u.ensures _ c.put_all.new.kept c.put_all.new.kept c.no_atoms-whole.ensures c.put_all.ensures,
-      as_long,
+      left_filling a.left.now r.book.now a.table.now u.result r.parts pre.0 pre.1 pre.2 pre.3 long
+          u.ensures _ c.put_all.new.kept c.put_all.new.kept c.no_atoms-whole.ensures (rw c.from-n.ensures at c.put_all.ensures),
       pre.2.body,
       upper_fits _ _ pre.3 long u.ensures,
     )
@@ -38,8 +32,9 @@ put_all-requires-2 c =
 pub returns : goal.returns
 returns c =
     let a = c.args in
+    let r = a.rule.now in
     let long : length a.table.now ≡ 96 = search rules in
     let pre = c.requires in
-    whole_written a.left.now a.book.now a.table.now c.upper_half-upper.result a.rule pre.0 pre.1
-    pre.2 pre.3 long c.upper_half-upper.ensures _ _ _ c.no_atoms-whole.ensures c.put_all.ensures
+    whole_written a.left.now r.book.now a.table.now c.upper_half-upper.result r.parts pre.0 pre.1
+    pre.2 pre.3 long c.upper_half-upper.ensures _ _ _ c.no_atoms-whole.ensures (rw c.from-n.ensures at c.put_all.ensures)
     c.put_all-2.ensures

@@ -17,21 +17,9 @@ returns-then-a-b c =
     (ap (λ x. join_table m (term_of a.a) (term_of x)) (sym c.if-a-b.true)
     ∙ join_self m (term_of a.a))
 
-pub replaced-requires : goal.replaced-requires
-replaced-requires c = (c.requires, c.if-a-lt128.true)
-
-pub shape_of-table-then-a-lt128 : goal.shape_of-table-then-a-lt128
-shape_of-table-then-a-lt128 c = c.replaced.auto.table
-
 pub returns-then-a-lt128 : goal.returns-then-a-lt128
 returns-then-a-lt128 c =
     merged_yes _ _ refl ∙ ap some c.replaced.ensures ∙ sym (join_variable _ _ _ c.if-a-lt128.true)
-
-pub replaced-requires-then-b-lt128 : goal.replaced-requires-then-b-lt128
-replaced-requires-then-b-lt128 c = (c.requires, c.if-b-lt128.true)
-
-pub shape_of-table-then-b-lt128 : goal.shape_of-table-then-b-lt128
-shape_of-table-then-b-lt128 c = c.replaced-then-b-lt128.auto.table
 
 pub returns-then-b-lt128 : goal.returns-then-b-lt128
 returns-then-b-lt128 c =

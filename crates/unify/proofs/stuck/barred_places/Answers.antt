@@ -1,5 +1,5 @@
 -- `unify::stuck::barred_places` meets its contract. The loop's invariant: the pairs from the j-th place on are among those
--- of the two atoms, and the head's places are sound. The measure is the number of places left.
+-- of the two atoms, and the head's places are sound.
 use native.Mathlib.Omega.{arith}
 use native.Mathlib.Nat.{add-zero}
 use mathlib.Core.Path.{sym, subst}
@@ -11,7 +11,7 @@ use Rattle.unify.proofs.StuckBytes.{first_within, rest_within, pairs_more}
 use Rattle.unify.proofs.stuck.barred_places.Goals as goal
 
 pub loop-j-init : goal.loop-j-init
-loop-j-init c = (omega arith, rw add-zero c.requires.5, rw (add-zero, add-zero) (λ x m. m))
+loop-j-init c = (rw add-zero c.requires.4, rw (add-zero, add-zero) (λ x m. m))
 
 pub returns-then-t : goal.returns-then-t
 returns-then-t c = λ e. absurd (true≢false (sym e))
@@ -22,26 +22,25 @@ returns-then-u c = λ e. absurd (true≢false (sym e))
 pub moved-requires : goal.moved-requires
 moved-requires c =
     let a = c.args in
-    let u = used_more a.book.now a.k c.loop-j.j 6 (omega arith) in_book c.loop-j.invariant.1 c.if-u.false in
+    let u = used_more a.rule.now.book.now a.k c.loop-j.j 6 (omega arith) in_book c.loop-j.invariant.0 c.if-u.false in
     term_constant in_book _ u.0
 
 pub tied_to-requires : goal.tied_to-requires
-tied_to-requires c = (c.requires.0, c.requires.1, c.requires.2)
+tied_to-requires c = (c.requires.0, c.requires.1)
 
 pub returns-then-tied_to : goal.returns-then-tied_to
 returns-then-tied_to c =
     λ e. (
       _,
-      first_within (pairs_more _ _ _ _ c.loop-j.j 6 (omega arith) c.if-t.false c.if-u.false) c.loop-j.invariant.2,
+      first_within (pairs_more _ _ _ _ c.loop-j.j 6 (omega arith) c.if-t.false c.if-u.false) c.loop-j.invariant.1,
       subst (TiedTo _ _ _) c.moved.ensures (c.tied_to.ensures c.if-tied_to.true),
     )
 
 pub loop-j-preserved : goal.loop-j-preserved
 loop-j-preserved c =
     let a = c.args in (
-      omega arith,
-      (used_more a.book.now a.k c.loop-j.j 6 (omega arith) in_book c.loop-j.invariant.1 c.if-u.false).1,
-      rest_within (pairs_more _ _ _ _ c.loop-j.j 6 (omega arith) c.if-t.false c.if-u.false) c.loop-j.invariant.2,
+      (used_more a.rule.now.book.now a.k c.loop-j.j 6 (omega arith) in_book c.loop-j.invariant.0 c.if-u.false).1,
+      rest_within (pairs_more _ _ _ _ c.loop-j.j 6 (omega arith) c.if-t.false c.if-u.false) c.loop-j.invariant.1,
     )
 
 pub returns : goal.returns

@@ -1,12 +1,9 @@
 -- `unify::stuck::tied_places` meets its contract. The loop's invariant: the terms from the j-th place on are among the
--- atom's. The measure is the number of places left.
+-- atom's.
 use Prim.Native.Nat.{◌+◌, ◌-◌, ◌≤◌}
 use Rattle.covering.specs.Record.{args_at}
 use Rattle.unify.proofs.StuckBytes.{Within}
 use Rattle.unify.proofs.stuck.tied_places.Given as goal
 
 abbrev pub invariant-loop-j : goal.invariant-loop-j
-invariant-loop-j l = (l.j ≤ 6) × Within (args_at l.question (l.i + l.j) (6 - l.j)) (args_at l.question l.i 6)
-
-abbrev pub decreases-loop-j : goal.decreases-loop-j
-decreases-loop-j l = 6 - l.j
+invariant-loop-j l = Within (args_at l.question (l.i + l.j) (6 - l.j)) (args_at l.question l.i 6)

@@ -26,7 +26,7 @@ pub returns : goal.returns
 returns c =
     λ e.
     let a = c.args in
-    tied_means a.table.now a.book.now a.body a.bodies a.head a.heads a.t a.u c.stands_for-z.result
+    tied_means a.table.now a.rule.now.book.now a.rule.now.parts a.t a.u c.stands_for-z.result
     c.stands_for-z.ensures (ap term_of (sym c.if-stands_for-z.false) ∙ c.stands_for.ensures)
     (omega arith) (omega arith) c.if-z-u.false
     (sym c.in_atoms.ensures ∙ c.if-in_atoms.false) (sym c.in_atoms-2.ensures ∙ e)

@@ -1,0 +1,38 @@
+-- `unify::validity::is_allowed` meets its contract: a constant and a variable of the body are no existential
+-- variables, and any other term of the head is one. That u stands in the body says that the moved u stands in the
+-- moved body.
+use mathlib.Core.Path.{sym}
+use Rattle.covering.specs.Record.{term_of}
+use Rattle.unify.specs.Table.{tabled}
+use Rattle.unify.specs.InBytes.{rule_in, rule_of, classes_of}
+use Rattle.unify.proofs.ValidTests.{is_var_lem, is_con, left_in, allowed_constant, allowed_frontier, allowed_unknown}
+use Rattle.unify.proofs.validity.is_allowed.Goals as goal
+
+pub returns-then-u-ge128 : goal.returns-then-u-ge128
+returns-then-u-ge128 c =
+    let a = c.args in
+    let rule = rule_of a.rule.now.book.now a.rule.now.parts in
+    let σ = tabled (classes_of a.table.now) in
+    sym (allowed_constant 48 rule (term_of a.u) σ (left_in a.left.now) (is_con _ c.if-u-ge128.true))
+
+pub returns-then-in_atoms : goal.returns-then-in_atoms
+unfolding rule_in
+returns-then-in_atoms c =
+    let a = c.args in
+    let rule = rule_of a.rule.now.book.now a.rule.now.parts in
+    let σ = tabled (classes_of a.table.now) in
+    sym
+    (allowed_frontier 48 rule (term_of a.u) σ (left_in a.left.now)
+    (is_var_lem _ c.if-u-ge128.false)
+    c.in_atoms.ensures c.if-in_atoms.true)
+
+pub returns : goal.returns
+unfolding rule_in
+returns c =
+    let a = c.args in
+    let rule = rule_of a.rule.now.book.now a.rule.now.parts in
+    let σ = tabled (classes_of a.table.now) in
+    allowed_unknown 48 rule (term_of a.u) σ (left_in a.left.now)
+    (is_var_lem _ c.if-u-ge128.false)
+    c.in_atoms.ensures c.if-in_atoms.false c.moved-z.ensures
+    c.is_safe.ensures
