@@ -1,7 +1,6 @@
 -- Laws of taking the next rewriting (`specs/Taking`), rule by rule, and of finding the oldest unexplored member, member
 -- by member. Assumes nothing.
 use mathlib.Core.Path.{◌≡◌, refl, sym, ◌∙◌, ap, subst}
-use mathlib.Core.Bool.{true, false, true≢false}
 use mathlib.Core.Logic.{◌⊎◌, inl, inr}
 use mathlib.Core.List.{List, [], ◌∷◌}
 use mathlib.Core.Option.{Option, none, some}
@@ -10,6 +9,8 @@ use native.Mathlib.Omega.{arith}
 use native.Mathlib.Nat.{sub-zero}
 use lib.ListN.{length, get_or, drop}
 use lib.Seq.{drop-drop}
+use Rattle.std.specs.Prelude.{Some, None}
+use Rattle.std.specs.Prelude.{Option as Answer}
 use Rattle.covering.specs.Lists.{head}
 use Rattle.covering.specs.Term.{Question}
 use Rattle.covering.specs.Record.{stored, question_of}
@@ -24,9 +25,9 @@ use Rattle.reading.proofs.SoundBook.{sound_header, sound_rule}
 use Rattle.reading.proofs.SoundQuestion.{sound_question}
 use Rattle.reading.specs.Book.{rule_at, rules_from, rule_start, book_of}
 use Rattle.reading.proofs.Reading.{rules_none, rules_more, rules_left}
-use Rattle.lister.specs.declared.Found.{Found}
 use Rattle.explore.specs.declared.Taken.{Taken}
-use Rattle.lister.specs.Listing.{rule_of, RuleIn, FoundIs}
+use Rattle.unify.specs.InBytes.{rule_of}
+use Rattle.lister.specs.Listing.{RuleIn, FoundIs}
 use Rattle.lister.proofs.FromBook.{rule_in_lem, rule_asked}
 use Rattle.unification.specs.Step.{next}
 use Rattle.exploration.specs.Run.{apart}
@@ -38,7 +39,7 @@ use Rattle.exploration.proofs.Standing.{Here, stands}
 use Rattle.exploration.proofs.Members.{members_more}
 
 -- an answer to one thing that is sought, with the room as it then came, is one to another that is the same
-pub told_same : {o o' : Option NumberedRewriting} {X X' Y : List ℕ} {t : Taken} → o' ≡ o → X ≡ X' → TakenIs o X t Y
+pub told_same : {o o' : Option NumberedRewriting} {X X' Y : List ℕ} {t : Answer Taken} → o' ≡ o → X ≡ X' → TakenIs o X t Y
     → TakenIs o' X' t Y
 told_same {o' = o'} {X = X} {Y = Y} {t = t} e same f =
     subst (λ (Z : List ℕ). TakenIs o' Z t Y) same (subst (λ (p : Option NumberedRewriting). TakenIs p X t Y) (sym e) f)
@@ -68,41 +69,41 @@ module _ (B : List ℕ) where
         ∙ ap (λ (o : Option (ℕ × Question)). or_later k o (next_among M (suc k) 0 rest)) e
         ∙ ap (λ (i : ℕ). next_among M i 0 rest) one_more
 
-    module _ (h : k < rules B) (X : List ℕ) (f : Found) (Y : List ℕ)
-        (e : FoundIs (next apart (rule_at B (rule_start B k)) M n) X f Y) where
-      pub among_found : f.found ≡ true
+    module _ (h : k < rules B) (X Y : List ℕ) where
+      pub among_found : (c : ℕ) → FoundIs (next apart (rule_at B (rule_start B k)) M n) X (Some c) Y
           → TakenIs (next_among M k n (rules_from B (rule_start B k) (rules B - k))) X
-          (record { found = true; rule = k; choice = f.choice }) Y
-      among_found t =
+          (Some (record { rule = k; choice = c })) Y
+      among_found c e =
           subst (λ (o : Option NumberedRewriting). TakenIs o X said Y) (sym (among_more h))
           (go (next apart (rule_at B (rule_start B k)) M n) e)
         where
-          said : Taken
-          said = record { found = true; rule = k; choice = f.choice }
+          said : Answer Taken
+          said = Some (record { rule = k; choice = c })
 
           later : Option NumberedRewriting
           later = next_among M (suc k) 0 (rules_from B (rule_start B (k + 1)) (rules B - (k + 1)))
 
-          go : (o : Option (ℕ × Question)) → FoundIs o X f Y → TakenIs (or_later k o later) X said Y
-          go none x = absurd (true≢false (sym t ∙ ap (λ (y : Found). y.found) x.answer))
+          go : (o : Option (ℕ × Question)) → FoundIs o X (Some c) Y → TakenIs (or_later k o later) X said Y
+          go none x = let a = x.answer in cc
           go (some y) x =
+              let same : c ≡ y.0 = let a = x.answer in cc in
               record {
-                answer = ap (λ (g : Found). record { found = true; rule = k; choice = g.choice }) x.answer;
+                answer = ap (λ (d : ℕ). Some (record { rule = k; choice = d })) same;
                 room = x.room;
               }
 
-      pub among_later : f.found ≡ false
+      pub among_later : FoundIs (next apart (rule_at B (rule_start B k)) M n) X None Y
           → (next_among M k n (rules_from B (rule_start B k) (rules B - k))
           ≡ next_among M (k + 1) 0 (rules_from B (rule_start B (k + 1)) (rules B - (k + 1))))
           × (Y ≡ X)
-      among_later t = go (next apart (rule_at B (rule_start B k)) M n) refl e
+      among_later e = go (next apart (rule_at B (rule_start B k)) M n) refl e
         where
-          go : (o : Option (ℕ × Question)) → next apart (rule_at B (rule_start B k)) M n ≡ o → FoundIs o X f Y
+          go : (o : Option (ℕ × Question)) → next apart (rule_at B (rule_start B k)) M n ≡ o → FoundIs o X None Y
               → (next_among M k n (rules_from B (rule_start B k) (rules B - k))
               ≡ next_among M (k + 1) 0 (rules_from B (rule_start B (k + 1)) (rules B - (k + 1))))
               × (Y ≡ X)
           go none i x = (among_passed h i, x.room)
-          go (some y) i x = absurd (true≢false (sym (ap (λ (g : Found). g.found) x.answer) ∙ t))
+          go (some y) i x = let a = x.answer in cc
 
 -- the first of the book's rules from the k-th on
 pub rule_here : (B : List ℕ) (k : ℕ) {r : Rule} {others : List Rule} → drop k (book_of B).rules ≡ r ∷ others

@@ -21,6 +21,7 @@ use Rattle.covering.proofs.Tests.{none≢some, either}
 use Rattle.covering.specs.Rule.{Rule}
 use Rattle.unification.specs.Step.{listed, from, next}
 use Rattle.unification.proofs.Following.{next_listed}
+use Rattle.std.specs.Prelude.{Some, None}
 use Rattle.explore.specs.declared.Taken.{Taken}
 use Rattle.exploration.specs.Run.{apart, all_rewritings}
 use Rattle.explore.specs.Taking.{or_later, next_among, taken, TakenIs, NumberedRewriting}
@@ -149,41 +150,42 @@ pub record Given (M : Question) (k n : ℕ) (rules : List Rule) (t : Taken) (R :
   pub bytes : R ≡ held_in stored record_room rewriting
   pub coming_is : coming M n (drop k rules) ≡ rewriting ∷ coming M (t.choice + 1) (drop t.rule rules)
 
-module _ (M : Question) (k n : ℕ) (rules : List Rule) (X : List ℕ) (t : Taken) (R : List ℕ)
-    (e : TakenIs (next_among M k n (drop k rules)) X t R) where
-  pub given_none : t.found ≡ false → coming M n (drop k rules) ≡ []
-  given_none f = go (next_among M k n (drop k rules)) refl e.answer
+module _ (M : Question) (k n : ℕ) (rules : List Rule) (X R : List ℕ) where
+  pub given_none : TakenIs (next_among M k n (drop k rules)) X None R → coming M n (drop k rules) ≡ []
+  given_none e = go (next_among M k n (drop k rules)) refl e.answer
     where
-      go : (o : Option NumberedRewriting) → next_among M k n (drop k rules) ≡ o → t ≡ taken o
+      go : (o : Option NumberedRewriting) → next_among M k n (drop k rules) ≡ o → None ≡ taken o
           → coming M n (drop k rules) ≡ []
       go none x y = next_none M k n (drop k rules) x
-      go (some z) x y = absurd (true≢false (sym (ap (λ (u : Taken). u.found) y) ∙ f))
+      go (some z) x y = cc
 
-  pub given_some : t.found ≡ true → Given M k n rules t R
-  given_some f = go (next_among M k n (drop k rules)) refl e
+  pub given_some : (t : Taken) → TakenIs (next_among M k n (drop k rules)) X (Some t) R → Given M k n rules t R
+  given_some t e = go (next_among M k n (drop k rules)) refl e
     where
-      go : (o : Option NumberedRewriting) → next_among M k n (drop k rules) ≡ o → TakenIs o X t R → Given M k n rules t R
-      go none x y = absurd (true≢false (sym f ∙ ap (λ (u : Taken). u.found) y.answer))
+      go : (o : Option NumberedRewriting) → next_among M k n (drop k rules) ≡ o → TakenIs o X (Some t) R
+          → Given M k n rules t R
+      go none x y = let a = y.answer in cc
       go (some z) x y =
           let s = next_some M k n (drop k rules) z x in
+          let same : t ≡ record { rule = z.rule; choice = z.choice } = let a = y.answer in cc in
           record {
             rewriting = z.rewriting;
             here = s.here;
             others = s.others;
             rules_are =
-                ap (λ (i : ℕ). drop i rules) (sym (rule_is s.later (ap (λ (u : Taken). u.rule) y.answer)))
+                ap (λ (i : ℕ). drop i rules) (sym (rule_is s.later (ap (λ (u : Taken). u.rule) same)))
                 ∙ sym (drop-drop (z.rule - k) k rules)
                 ∙ s.rules_are;
             listed_is =
                 subst (λ (i : ℕ). (i, z.rewriting) ∈ listed apart s.here M)
-                (sym (ap (λ (u : Taken). u.choice) y.answer)) s.listed_is;
+                (sym (ap (λ (u : Taken). u.choice) same)) s.listed_is;
             bytes = y.room;
             coming_is =
                 s.coming_is
                 ∙ ap (λ (l : List Rule). z.rewriting ∷ coming M (suc z.choice) l) (drop-drop (z.rule - k) k rules)
                 ∙ ap₂ (λ (c r : ℕ). z.rewriting ∷ coming M c (drop r rules))
-                (choice_is (ap (λ (u : Taken). u.choice) y.answer))
-                (rule_is s.later (ap (λ (u : Taken). u.rule) y.answer));
+                (choice_is (ap (λ (u : Taken). u.choice) same))
+                (rule_is s.later (ap (λ (u : Taken). u.rule) same));
           }
         where
           choice_is : t.choice ≡ z.choice → suc z.choice ≡ t.choice + 1

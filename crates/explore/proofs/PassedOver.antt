@@ -4,6 +4,8 @@ use mathlib.Core.Path.{◌≡◌, refl, sym, ◌∙◌, ap, subst}
 use mathlib.Core.Bool.{Bool, true, false, true≢false, cond}
 use mathlib.Core.List.{List}
 use mathlib.Core.Option.{Option, none, some}
+use Rattle.std.specs.Prelude.{Some, None}
+use Rattle.std.specs.Prelude.{Option as Answer}
 use Prim.Native.Nat.{ℕ, suc, ◌+◌, ◌*◌, ◌-◌, ◌/◌, ◌≤◌, ◌<◌}
 use native.Mathlib.Nat.{add-mul, div-add-mod', mod-lt, div-mul-le_self}
 use native.Mathlib.Omega.{arith}
@@ -24,7 +26,6 @@ use Rattle.unification.specs.Classes.{unify}
 use Rattle.unification.specs.Choice.{count, number, pairing}
 use Rattle.unification.specs.Step.{move, rewriting, listed}
 use Rattle.unification.proofs.Prefix.{count_some, prefix_covered}
-use Rattle.lister.specs.declared.Settled.{Settled}
 use Rattle.lister.specs.FirstDigits.{unmet, surely_left, settled, settled_of, PrefixIs}
 use Rattle.lister.proofs.Unmet.{unmet_are}
 use Rattle.exploration.specs.Run.{covered, apart}
@@ -35,40 +36,39 @@ pub goes_next : (r : Rule) (M : Question) (U : List Question) (c : ℕ) → Goes
 goes_next r M U c = record { later = omega arith; between = λ i P m l u. absurd (omega arith) }
 
 -- what the lister said of the first p digits
-module _ {r : Rule} {M : Question} {c p : ℕ} {x : Settled} (i : PrefixIs r M c p x) where
+module _ {r : Rule} {M : Question} {c p : ℕ} {x : Answer (List ℕ)} (i : PrefixIs r M c p x) where
   abbrev here : Option Question
   here = settled apart r M p i.choice
 
   -- they cannot be sent, so nothing is covered
-  pub unmet_covered : (U : List Question) → x.met ≡ false → PrefixCovered r M U c p false
+  pub unmet_covered : (U : List Question) → x ≡ None → PrefixCovered r M U c p false
   unmet_covered U e =
       record { choice = i.choice; among = i.among; place = i.place; is = go here i.is }
     where
       go : (o : Option Question) → x ≡ settled_of o → false ≡ covers_settled U o
       go none y = refl
-      go (some X) y = absurd (true≢false (sym (ap (λ (z : Settled). z.met) y) ∙ e))
+      go (some X) y = cc
 
   -- they can, and this is the record of what they settle
-  module _ (e : x.met ≡ true) where
+  module _ {R : List ℕ} (e : x ≡ Some R) where
     record Recorded : Type 0 where
       question : Question
       is : here ≡ some question
-      bytes : x.rewriting ≡ held_in stored record_room question
+      bytes : R ≡ held_in stored record_room question
       fits : Fits stored question
 
     recorded : Recorded
     recorded = go here refl i.is
       where
         go : (o : Option Question) → here ≡ o → x ≡ settled_of o → Recorded
-        go none h y = absurd (true≢false (sym e ∙ ap (λ (z : Settled). z.met) y))
-        go (some X) h y =
-            record { question = X; is = h; bytes = ap (λ (z : Settled). z.rewriting) y; fits = i.fits X h }
+        go none h y = cc
+        go (some X) h y = record { question = X; is = h; bytes = cc; fits = i.fits X h }
 
-    pub settled_sound : SoundRecord stored x.rewriting
+    pub settled_sound : SoundRecord stored R
     settled_sound =
         subst (SoundRecord stored) (sym recorded.bytes) (stored_sound recorded.question recorded.fits)
 
-    pub met_covered : (U : List Question) (ok : Bool) → ok ≡ covered covers (question_of stored x.rewriting) U
+    pub met_covered : (U : List Question) (ok : Bool) → ok ≡ covered covers (question_of stored R) U
         → PrefixCovered r M U c p ok
     met_covered U ok h =
         record {

@@ -1,6 +1,5 @@
 -- Laws of the sets of the rules' head relations (`specs/Related`): that what is made of a rule's head is its set, and that
--- a rule whose set has nothing in common with the member's has no rewriting; and of the flags that are stored after the
--- sets. Assumes nothing.
+-- a rule whose set has nothing in common with the member's has no rewriting. Assumes nothing.
 use mathlib.Core.Path.{◌≡◌, refl, sym, ap, ◌∙◌, subst}
 use mathlib.Core.Bool.{Bool, true, false, cond}
 use mathlib.Core.Logic.{◌⊎◌, inl, inr}
@@ -9,9 +8,10 @@ use mathlib.Core.Option.{Option, none, some}
 use Prim.Native.Nat.{ℕ, ◌+◌, ◌≤◌, ◌<◌}
 use native.Mathlib.Omega.{arith}
 use lib.Bits.{bit_and, and_comm}
-use lib.Dec.{eqb}
 use lib.ListN.{length, get_or, set}
 use lib.Seq.{get_or-set_same, get_or-set_other}
+use Rattle.std.specs.Prelude.{Some, None, IfSome}
+use Rattle.std.specs.Prelude.{Option as Answer}
 use Rattle.covering.specs.Term.{Question}
 use Rattle.covering.specs.Rule.{Rule}
 use Rattle.covering.specs.Record.{stored, atoms_at, question_of}
@@ -21,16 +21,18 @@ use Rattle.records.proofs.Among.{none_in_both}
 use Rattle.book.specs.declared.Parts.{Parts}
 use Rattle.book.specs.Parts.{parts_at}
 use Rattle.reading.specs.Header.{form_of, new}
-use Rattle.reading.specs.Book.{rule_at}
+use Rattle.reading.specs.Book.{rule_at, rule_start}
 use Rattle.reading.proofs.Reading.{rule_stored}
-use Rattle.lister.specs.declared.Found.{Found}
 use Rattle.lister.specs.Counts.{most_choices}
-use Rattle.lister.specs.Listing.{rule_of, RuleIn, QuestionIn, found_of, FoundIs}
+use Rattle.unify.specs.InBytes.{rule_of}
+use Rattle.lister.specs.Listing.{RuleIn, QuestionIn, found_of, FoundIs}
 use Rattle.lister.proofs.FromBook.{rule_asked, found_within}
 use Rattle.unify.specs.Unknowns.{has_unknowns}
 use Rattle.unification.specs.Step.{next}
 use Rattle.unification.proofs.Unrelated.{none_next}
 use Rattle.exploration.specs.Run.{apart}
+use Rattle.explore.specs.declared.Head.{Head}
+use Rattle.explore.specs.Related.{head_told}
 
 module _ (B : List ℕ) (f : form_of B ≡ new) (s : ℕ) where
   -- the set that is made of the parts' head is that of the rule
@@ -52,41 +54,39 @@ module _ (B : List ℕ) (f : form_of B ≡ new) (s : ℕ) where
         none_next apart r M (none_in_both M r.head (same ∙ e))
 
     pub none_tried : bit_and head all ≡ 0 → (n : ℕ) (X : List ℕ)
-        → FoundIs (next apart (rule_at B s) M n) X (record { found = false; choice = 0 }) X
+        → FoundIs (next apart (rule_at B s) M n) X None X
     none_tried e n X =
-        subst (λ (o : Option (ℕ × Question)). FoundIs o X (record { found = false; choice = 0 }) X)
+        subst (λ (o : Option (ℕ × Question)). FoundIs o X None X)
         (sym (nothing_related e n)) (record { answer = refl; room = refl })
 
   -- what the lister gives for the parts is what the rule gives
-  pub found_by : (p : Parts) → p ≡ parts_at B s → (M : Question) (n : ℕ) (X : List ℕ) (g : Found) (Y : List ℕ)
+  pub found_by : (p : Parts) → p ≡ parts_at B s → (M : Question) (n : ℕ) (X : List ℕ) (g : Answer ℕ) (Y : List ℕ)
       → FoundIs (next 48 (rule_of B p) M n) X g Y → FoundIs (next apart (rule_at B s) M n) X g Y
   found_by p e M n X g Y x =
       subst (λ (r : Rule). FoundIs (next 48 r M n) X g Y) (ap (rule_of B) e ∙ rule_asked B f s) x
 
 -- and its number is not too large
-pub found_few : (B : List ℕ) (p : Parts) → RuleIn B p → (Q : List ℕ) → QuestionIn Q → (n : ℕ) (g : Found)
-    → g ≡ found_of (next 48 (rule_of B p) (question_of stored Q) n) → g.choice < most_choices
+pub found_few : (B : List ℕ) (p : Parts) → RuleIn B p → (Q : List ℕ) → QuestionIn Q → (n : ℕ) (g : Answer ℕ)
+    → g ≡ found_of (next 48 (rule_of B p) (question_of stored Q) n) → IfSome g (λ c. c < most_choices)
 found_few B p r Q q n g x = go (next 48 (rule_of B p) (question_of stored Q) n) refl x
   where
     go : (o : Option (ℕ × Question)) → next 48 (rule_of B p) (question_of stored Q) n ≡ o → g ≡ found_of o
-        → g.choice < most_choices
-    go none i e = let z : g.choice ≡ 0 = ap (λ (y : Found). y.choice) e in omega (arith, z)
+        → IfSome g (λ c. c < most_choices)
+    go none i e = subst (λ (a : Answer ℕ). IfSome a (λ c. c < most_choices)) (sym e) tt
     go (some y) i e =
-        (found_within Q B p q r n g (e ∙ ap found_of (sym i)) (ap (λ (z : Found). z.found) e)).1
+        subst (λ (a : Answer ℕ). IfSome a (λ c. c < most_choices)) (sym e)
+        (found_within Q B p q r n y.0 (ap found_of (sym i))).1
 
--- what is read of a flag
-pub flag_read : (x : ℕ) (b : Bool) → x ≡ cond b 1 0 → eqb x 1 ≡ b
-flag_read x true e = ap (λ (y : ℕ). eqb y 1) e
-flag_read x false e = ap (λ (y : ℕ). eqb y 1) e
-
--- what holds of the first m after the place i, and of v, holds of one more once v is stored after them
-pub stored_after : (l : List ℕ) (i m v : ℕ) (f : ℕ → ℕ) → i + m < length l
-    → ((j : ℕ) → j < m → get_or l (i + j) 0 ≡ f j) → v ≡ f m
-    → (j : ℕ) → j ≤ m → get_or (set l (i + m) v) (i + j) 0 ≡ f j
-stored_after l i m v f fits below e j small = go (le_or_lt m j)
+-- what is known of the heads so far, and of one more once that is stored
+pub stored_heads : (B : List ℕ) (heads : List Head) (k : ℕ) (v : Head) → k < length heads
+    → v ≡ head_told (rule_at B (rule_start B k))
+    → ((j : ℕ) (d : Head) → j < k → get_or heads j d ≡ head_told (rule_at B (rule_start B j)))
+    → (j : ℕ) (d : Head) → j < k + 1 → get_or (set heads k v) j d ≡ head_told (rule_at B (rule_start B j))
+stored_heads B heads k v fits e below j d small = go (le_or_lt k j)
   where
-    go : (m ≤ j) ⊎ (j < m) → get_or (set l (i + m) v) (i + j) 0 ≡ f j
+    go : (k ≤ j) ⊎ (j < k) → get_or (set heads k v) j d ≡ head_told (rule_at B (rule_start B j))
     go (inl g) =
-        let d : m ≡ j = omega arith in
-        subst (λ (x : ℕ). get_or (set l (i + m) v) (i + x) 0 ≡ f x) d (get_or-set_same l (i + m) v 0 fits ∙ e)
-    go (inr g) = get_or-set_other l (i + m) (i + j) v 0 (λ d. omega arith) ∙ below j g
+        let same : k ≡ j = omega arith in
+        subst (λ (x : ℕ). get_or (set heads k v) x d ≡ head_told (rule_at B (rule_start B x))) same
+        (get_or-set_same heads k v d fits ∙ e)
+    go (inr g) = get_or-set_other heads k j v d (λ x. omega arith) ∙ below j d g

@@ -1,5 +1,6 @@
 -- Taking the rewritings one at a time (01, "Exploring"): "go through rules in book order, choices in theirs".
-use Rattle.std.specs.Prelude.{◌≡◌, true, false, List, [], ◌∷◌, ℕ, suc}
+use Rattle.std.specs.Prelude.{◌≡◌, List, [], ◌∷◌, ℕ, suc, Some, None}
+use Rattle.std.specs.Prelude.{Option as Answer}
 use Rattle.std.proofs.Math.Option.{Option, none, some}
 use Rattle.covering.specs.Term.{Question}
 use Rattle.covering.specs.Record.{stored}
@@ -26,9 +27,9 @@ next_among M k n [] = none
 next_among M k n (r ∷ rules) = or_later k (next apart r M n) (next_among M (suc k) 0 rules)
 
 -- what the answer says of it
-abbrev pub taken : Option NumberedRewriting → Taken
-taken none = record { found = false; rule = 0; choice = 0 }
-taken (some e) = record { found = true; rule = e.rule; choice = e.choice }
+abbrev pub taken : Option NumberedRewriting → Answer Taken
+taken none = None
+taken (some e) = Some (record { rule = e.rule; choice = e.choice })
 
 -- what the room lent for the rewriting, which came as X, then holds: its record, or X still
 abbrev pub room_of : Option NumberedRewriting → List ℕ → List ℕ
@@ -36,6 +37,6 @@ room_of none X = X
 room_of (some e) X = held_in stored record_room e.rewriting
 
 -- the answer t and the room Y tell it
-pub record TakenIs (o : Option NumberedRewriting) (X : List ℕ) (t : Taken) (Y : List ℕ) : Type 0 where
+pub record TakenIs (o : Option NumberedRewriting) (X : List ℕ) (t : Answer Taken) (Y : List ℕ) : Type 0 where
   pub answer : t ≡ taken o
   pub room : Y ≡ room_of o X

@@ -11,9 +11,10 @@ ghost use Rattle.explore.specs.Exploring.{MemberIn, ExploredIs, SetsLeft};
 ghost use Rattle.explore.specs.Related.{HeadSets};
 ghost use Rattle.exploration.specs.Refusals.{answers_of, limits_of};
 
-use super::Explored;
+use super::related::RULES;
 use super::skipping::{after_drop, fresh};
 use super::taking_up::next_rewriting;
+use super::{Explored, Head};
 use admit::{Extent, Fate, ROOM, admit};
 use covering::RECORD;
 
@@ -23,7 +24,7 @@ pub fn explore(
     book: &[u8],
     rules: usize,
     starts: &[usize],
-    heads: &[u64],
+    heads: &[Head; RULES],
     member: &[u8; RECORD],
     work: &mut [u8],
     sets: &mut [u64; ROOM],
@@ -55,10 +56,10 @@ pub fn explore(
     let mut room = [255u8; RECORD];
     let mut patience = fresh(0);
     loop {
-        let taken = next_rewriting(book, rules, starts, heads, member, rule, from, &mut room);
-        if !taken.found {
+        let found = next_rewriting(book, rules, starts, heads, member, rule, from, &mut room);
+        let Some(taken) = found else {
             return Explored::Passed(held);
-        }
+        };
         rule = taken.rule;
         from = taken.choice + 1;
         let fate = admit(work, sets, held, &room, answers);

@@ -14,11 +14,16 @@ pub use whole_run::{answer_records, run};
 // "Output room becomes 4,104 for all": 8 and 64 times the record of eight atoms and an answer record, six places each.
 pub const OUTPUT: usize = 4104;
 
-// The next rewriting: whether there is one, and the numbers of its rule and of its choice. Its record goes to the room
-// that is lent for it.
+// The relations of a rule's head, a set, and whether the rule has existential variables.
+#[derive(Clone, Copy)]
+pub struct Head {
+    pub relations: u64,
+    pub unknowns: bool,
+}
+
+// The next rewriting: the numbers of its rule and of its choice. Its record goes to the room that is lent for it.
 #[derive(Clone, Copy)]
 pub struct Taken {
-    pub found: bool,
     pub rule: usize,
     pub choice: usize,
 }

@@ -8,7 +8,8 @@ ghost use Rattle.reading.specs.Book.{rule_at, rule_start};
 ghost use Rattle.reading.specs.Verdict.{SoundBook};
 ghost use Rattle.book.specs.Parts.{StartsAt};
 ghost use Rattle.unification.specs.Choice.{count};
-ghost use Rattle.lister.specs.Listing.{rule_of, RuleIn, QuestionIn};
+ghost use Rattle.lister.specs.Listing.{RuleIn, QuestionIn};
+ghost use Rattle.unify.specs.InBytes.{rule_of};
 ghost use Rattle.exploration.specs.Union.{first_at};
 ghost use Rattle.exploration.specs.Held.{held_from, Standing};
 ghost use Rattle.admit.specs.Sets.{Beside};
@@ -16,8 +17,8 @@ ghost use Rattle.explore.specs.Skipping.{PrefixCovered, GoesOn};
 
 use super::{Patience, Resumed};
 use admit::{ROOM, is_covered};
-use book::{Parts, rule_at};
-use lister::{after_prefix, prefix_rewriting};
+use book::rule_at;
+use lister::{Rule, after_prefix, prefix_rewriting};
 
 // So many drops by one rule go by before it is first asked, and no more than so many before it is asked again.
 const FEW: usize = 8;
@@ -26,8 +27,7 @@ const MANY: usize = 65536;
 
 // Whether one of the members in the array covers what the first p digits of the choice settle.
 fn prefix_covered(
-    book: &[u8],
-    rule: Parts,
+    rule: &Rule<'_>,
     member: &[u8],
     work: &[u8],
     sets: &[u64; ROOM],
@@ -36,25 +36,24 @@ fn prefix_covered(
     p: usize,
 ) -> bool
     requires { QuestionIn member.now
-        × RuleIn book.now rule
+        × RuleIn rule.now.book.now rule.now.parts
         × (members ≤ 64)
         × Standing work.now first_at members
         × (p < get_or member.now 0 0)
-        × (choice < count rule.heads (get_or member.now 0 0))
+        × (choice < count rule.now.parts.heads (get_or member.now 0 0))
         × Beside sets.now work.now members }
     ensures { PrefixCovered
-        (rule_of book.now rule)
+        (rule_of rule.now.book.now rule.now.parts)
         (question_of stored member.now)
         (held_from work.now first_at members)
         choice
         p
         result }
 {
-    let settled = prefix_rewriting(member, book, rule, choice, p);
-    if !settled.met {
+    let settled = prefix_rewriting(member, rule, choice, p);
+    let Some(question) = settled else {
         return false;
-    }
-    let question = settled.rewriting;
+    };
     is_covered(work, sets, members, &question)
 }
 
@@ -71,8 +70,7 @@ fn shortest(n: usize) -> usize
 // The number to go on from after the choice: after all that have its shortest covered prefix, or the next one. A prefix
 // covers what a longer one does, so the longest is asked first, and where it is not covered nothing else is asked.
 fn after_covered(
-    book: &[u8],
-    rule: Parts,
+    rule: &Rule<'_>,
     member: &[u8],
     work: &[u8],
     sets: &[u64; ROOM],
@@ -80,25 +78,22 @@ fn after_covered(
     choice: usize,
 ) -> usize
     requires { QuestionIn member.now
-        × RuleIn book.now rule
+        × RuleIn rule.now.book.now rule.now.parts
         × (members ≤ 64)
         × Standing work.now first_at members
-        × (choice < count rule.heads (get_or member.now 0 0))
+        × (choice < count rule.now.parts.heads (get_or member.now 0 0))
         × Beside sets.now work.now members }
     ensures { GoesOn
-        (rule_of book.now rule)
+        (rule_of rule.now.book.now rule.now.parts)
         (question_of stored member.now)
         (held_from work.now first_at members)
         choice
         result }
 {
-    let n = member[0] as usize;
-    let least = shortest(n);
+    let n = usize::from(member[0]);
     let mut from = choice + 1;
-    let mut p = n;
-    while least < p {
-        p -= 1;
-        if !prefix_covered(book, rule, member, work, sets, members, choice, p) {
+    for p in (shortest(n)..n).rev() {
+        if !prefix_covered(rule, member, work, sets, members, choice, p) {
             return from;
         }
         from = after_prefix(member, rule, choice, p);
@@ -109,7 +104,7 @@ fn after_covered(
 // The patience that a rule begins with.
 pub fn fresh(rule: usize) -> Patience {
     Patience {
-        rule: rule,
+        rule,
         drops: FEW,
         next: FEW,
     }
@@ -119,20 +114,20 @@ pub fn fresh(rule: usize) -> Patience {
 fn asked(rule: usize, next: usize, helped: bool) -> Patience {
     if helped {
         return Patience {
-            rule: rule,
+            rule,
             drops: 0,
             next: 1,
         };
     }
     if MANY <= next {
         return Patience {
-            rule: rule,
+            rule,
             drops: next,
-            next: next,
+            next,
         };
     }
     Patience {
-        rule: rule,
+        rule,
         drops: next,
         next: next * 2,
     }
@@ -178,15 +173,8 @@ pub fn after_drop(
             patience: now,
         };
     }
-    let from = after_covered(
-        book,
-        rule_at(book, starts[rule]),
-        member,
-        work,
-        sets,
-        members,
-        choice,
-    );
+    let parts = rule_at(book, starts[rule]);
+    let from = after_covered(&Rule { book, parts }, member, work, sets, members, choice);
     Resumed {
         from: from,
         patience: asked(rule, now.next, choice + 1 < from),

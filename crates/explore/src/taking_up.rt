@@ -1,5 +1,5 @@
 // Taking up the oldest unexplored member, and taking its next rewriting.
-ghost use Rattle.std.specs.Prelude.{◌≡◌, ◌<◌, drop};
+ghost use Rattle.std.specs.Prelude.{◌≡◌, ◌<◌, drop, IfSome};
 ghost use Rattle.covering.specs.Record.{stored, question_of, SoundRecord};
 ghost use Rattle.reading.specs.Book.{book_of};
 ghost use Rattle.reading.specs.Header.{rules as rules_of, form_of, new};
@@ -12,8 +12,8 @@ ghost use Rattle.explore.specs.Exploring.{OldestIs};
 ghost use Rattle.explore.specs.Related.{HeadSets};
 ghost use Rattle.explore.specs.Taking.{next_among, TakenIs};
 
-use super::Taken;
 use super::related::{RULES, next_by};
+use super::{Head, Taken};
 use admit::{Extent, FIRST};
 use covering::RECORD;
 
@@ -37,12 +37,12 @@ pub fn next_rewriting(
     book: &[u8],
     rules: usize,
     starts: &[usize],
-    heads: &[u64],
+    heads: &[Head; RULES],
     member: &[u8; RECORD],
     k: usize,
     from: usize,
     out: &mut [u8; RECORD],
-) -> Taken
+) -> Option<Taken>
     requires { SoundBook book.now
         × (rules ≡ rules_of book.now)
         × StartsAt book.now starts.now
@@ -59,35 +59,16 @@ pub fn next_rewriting(
         out.old
         result
         out.new
-        × (result.choice < most_choices) }
+        × IfSome result (λ taken. taken.choice < most_choices) }
 {
     let all = records::relations(member);
-    let mut rule = k;
-    let mut choice = from;
-    while rule < rules {
-        let found = next_by(
-            book,
-            starts[rule],
-            heads[rule],
-            heads[RULES + rule],
-            member,
-            all,
-            choice,
-            out,
-        );
-        if found.found {
-            return Taken {
-                found: true,
-                rule: rule,
-                choice: found.choice,
-            };
+    let mut first = from;
+    for rule in k..rules {
+        let found = next_by(book, starts[rule], heads[rule], member, all, first, out);
+        if let Some(choice) = found {
+            return Some(Taken { rule, choice });
         }
-        rule += 1;
-        choice = 0;
+        first = 0;
     }
-    Taken {
-        found: false,
-        rule: 0,
-        choice: 0,
-    }
+    None
 }

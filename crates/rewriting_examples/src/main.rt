@@ -8,9 +8,9 @@ ghost use Rattle.reading.specs.Verdict.{SoundBook};
 ghost use Rattle.lister.specs.Listing.{QuestionIn, RuleIn};
 ghost use Rattle.covering.specs.Buffer.{record_room};
 
-use book::Parts;
 use covering::RECORD;
 use forms::{BOOK, to_new};
+use lister::Rule;
 use std::io;
 use std::io::Write;
 
@@ -118,19 +118,17 @@ fn show<W: Write>(out: &mut W, choice: usize, record: &[u8; RECORD]) -> io::Resu
 }
 
 // The question's rewritings by a rule, choices ascending.
-fn list<W: Write>(out: &mut W, question: &[u8; RECORD], book: &[u8], rule: Parts) -> io::Result<()>
-    requires { QuestionIn question.now × RuleIn book.now rule }
+fn list<W: Write>(out: &mut W, question: &[u8; RECORD], rule: &Rule<'_>) -> io::Result<()>
+    requires { QuestionIn question.now × RuleIn rule.now.book.now rule.now.parts }
 {
-    let unknowns = lister::has_unknowns(book, rule);
+    let unknowns = lister::has_unknowns(rule);
     let mut from: usize = 0;
     let mut rewriting = [255u8; RECORD];
     while from < MOST {
-        let r = lister::next(question, book, rule, unknowns, from, &mut rewriting);
-        let found = r.found;
-        if !found {
+        let found = lister::next(question, rule, unknowns, from, &mut rewriting);
+        let Some(choice) = found else {
             return Ok(());
-        }
-        let choice = r.choice;
+        };
         show(out, choice, &rewriting)?;
         from = choice + 1;
     }
@@ -159,7 +157,8 @@ fn tell_new<W: Write>(out: &mut W, book: &[u8]) -> io::Result<()>
     }
     let at = book::starts(book);
     let question = book::question(book);
-    list(out, &question, book, book::rule_at(book, at[0]))
+    let parts = book::rule_at(book, at[0]);
+    list(out, &question, &Rule { book, parts })
 }
 
 fn main(rt: HostRuntime) -> io::Result<()> {

@@ -5,15 +5,18 @@ use Rattle.rewriting_examples.proofs.list.Goals as goal
 
 pub overflow_add-from : goal.overflow_add-from
 overflow_add-from g c =
-    let w = found_within c.args.question.now c.args.book.now c.args.rule c.requires.0 c.requires.1 _ c.next-r.result c.next-r.ensures.answer c.if-not-found.false in
+    let r = c.args.rule.now in
+    let w = found_within c.args.question.now r.book.now r.parts c.requires.0 c.requires.1 _ c.in-Some.choice c.in-Some.ensures.answer in
     omega (arith, w.0, w.1)
 
 pub loop-from-smaller : goal.loop-from-smaller
 loop-from-smaller g c =
-    let w = found_within c.args.question.now c.args.book.now c.args.rule c.requires.0 c.requires.1 _ c.next-r.result c.next-r.ensures.answer c.if-not-found.false in
+    let r = c.args.rule.now in
+    let w = found_within c.args.question.now r.book.now r.parts c.requires.0 c.requires.1 _ c.in-Some.choice c.in-Some.ensures.answer in
     omega (arith, w.0, w.1)
 
 pub loop-from-preserved : goal.loop-from-preserved
 loop-from-preserved g c =
-    let w = found_within c.args.question.now c.args.book.now c.args.rule c.requires.0 c.requires.1 _ c.next-r.result c.next-r.ensures.answer c.if-not-found.false in
+    let r = c.args.rule.now in
+    let w = found_within c.args.question.now r.book.now r.parts c.requires.0 c.requires.1 _ c.in-Some.choice c.in-Some.ensures.answer in
     omega (arith, w.0, w.1)

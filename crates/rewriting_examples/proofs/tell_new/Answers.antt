@@ -11,8 +11,8 @@ use Rattle.rewriting_examples.proofs.tell_new.Goals as goal
 pub read-h-requires : goal.read-h-requires
 read-h-requires g c = sound_long _ c.requires.0
 
-pub rule_at-requires : goal.rule_at-requires
-rule_at-requires g c =
+pub rule_at-parts-requires : goal.rule_at-parts-requires
+rule_at-parts-requires g c =
     let B = c.args.book.now in
     let some : 0 < rules B = omega (arith, ap (λ (h : Header). h.rules) c.read-h.ensures.is, c.if-h-eq0.false) in
     (omega (arith, c.starts-at.ensures.starts 0 (omega arith), (sound_rule B c.requires.0 0 some).ends, (sound_header B c.requires.0).ends), c.requires.1)
@@ -22,6 +22,6 @@ list-requires g c =
     let B = c.args.book.now in
     let some : 0 < rules B = omega (arith, ap (λ (h : Header). h.rules) c.read-h.ensures.is, c.if-h-eq0.false) in (
       question_in B c.requires.0 c.requires.1 _ c.question-question.ensures,
-      subst (RuleIn B) (sym (c.rule_at.ensures ∙ ap (parts_at B) (c.starts-at.ensures.starts 0 (omega arith))))
+      subst (RuleIn B) (sym (c.rule_at-parts.ensures ∙ ap (parts_at B) (c.starts-at.ensures.starts 0 (omega arith))))
           (rule_in_lem B c.requires.0 c.requires.1 0 some),
     )

@@ -9,9 +9,9 @@ use Rattle.explore.proofs.Coming.{coming}
 use Rattle.explore.proofs.Onward.{Onward}
 use Rattle.explore.proofs.exploring.explore.Given as goal
 
-abbrev pub invariant-loop-room : goal.invariant-loop-room
-invariant-loop-room l = Onward (limits_of l.book) (book_of l.book).rules (question_of stored l.member) l.initial.work l.initial.held l.work l.held l.rule l.from
+abbrev pub invariant-loop-taken : goal.invariant-loop-taken
+invariant-loop-taken l = Onward (limits_of l.book) (book_of l.book).rules (question_of stored l.member) l.initial.work l.initial.held l.work l.held l.rule l.from
     × Beside l.sets l.work l.held.count
 
-abbrev pub decreases-loop-room : goal.decreases-loop-room
-decreases-loop-room l = length (coming (question_of stored l.member) l.from (drop l.rule (book_of l.book).rules))
+abbrev pub decreases-loop-taken : goal.decreases-loop-taken
+decreases-loop-taken l = length (coming (question_of stored l.member) l.from (drop l.rule (book_of l.book).rules))

@@ -6,12 +6,15 @@ use Prim.Native.Nat.{ℕ, ◌<◌}
 use lib.ListN.{length, get_or}
 use Rattle.covering.specs.Rule.{Rule}
 use Rattle.covering.specs.Record.{stored, question_of}
+use Rattle.reading.specs.Header.{rules as rules_of, form_of, new}
+use Rattle.reading.specs.Verdict.{SoundBook}
 use Rattle.reading.specs.Book.{rule_at, rule_start}
 use Rattle.book.specs.declared.Parts.{Parts}
-use Rattle.book.specs.Parts.{parts_at}
+use Rattle.book.specs.Parts.{StartsAt, parts_at}
 use Rattle.unification.specs.Choice.{count}
 use Rattle.lister.specs.Counts.{most_choices}
-use Rattle.lister.specs.Listing.{rule_of, RuleIn}
+use Rattle.unify.specs.InBytes.{rule_of}
+use Rattle.lister.specs.Listing.{QuestionIn, RuleIn}
 use Rattle.lister.proofs.Answers.{heads_are}
 use Rattle.lister.proofs.Asked.{count_few}
 use Rattle.exploration.specs.Union.{first_at}
@@ -19,74 +22,69 @@ use Rattle.exploration.specs.Held.{held_from}
 use Rattle.explore.specs.Skipping.{GoesOn}
 use Rattle.explore.proofs.Among.{rules_few, start_fits, start_inside, parts_in, rule_is}
 use Rattle.explore.proofs.PassedOver.{goes_next}
-use Rattle.explore.proofs.skipping.after_drop.Lts as lts
-use Rattle.explore.proofs.skipping.after_drop.Reads as reads
-use Rattle.explore.proofs.skipping.after_drop.Tie as tie
 use Rattle.explore.proofs.skipping.after_drop.Goals as goal
 
-abbrev Start : Type 0
-Start = lts.Start tie.the-claims reads.Pre reads.Post
-
-abbrev book : Start → List ℕ
-book c = c.args.book.now
-
 -- the rule of that number: its parts p as they were read
-module _ (b : Start) (p : Parts) (e : p ≡ parts_at (book b) (get_or b.args.starts.now b.args.rule 0)) where
-  own_rule : rule_of (book b) p ≡ rule_at (book b) (rule_start (book b) b.args.rule)
-  own_rule = rule_is (book b) b.requires.0 b.args.starts.now b.requires.2 _ b.requires.6 b.requires.1 p e
+module _ (B starts Q : List ℕ) (s : SoundBook B) (f : form_of B ≡ new) (a : StartsAt B starts) (q : QuestionIn Q) (k c : ℕ)
+    (l : k < rules_of B) (few : c < count (length (rule_at B (rule_start B k)).head) (get_or Q 0 0)) where
+  module _ (p : Parts) (e : p ≡ parts_at B (get_or starts k 0)) where
+    own_rule : rule_of B p ≡ rule_at B (rule_start B k)
+    own_rule = rule_is B s starts a k l f p e
 
-  in_book_lem : RuleIn (book b) p
-  in_book_lem = parts_in (book b) b.requires.0 b.args.starts.now b.requires.2 _ b.requires.6 b.requires.1 p e
+    in_book_lem : RuleIn B p
+    in_book_lem = parts_in B s starts a k l f p e
 
-  -- the choice is one of its
-  own_choice : b.args.choice < count p.heads (get_or b.args.member.now 0 0)
-  own_choice =
-      subst (λ (h : ℕ). b.args.choice < count h (get_or b.args.member.now 0 0))
-      (ap (λ (r : Rule). length r.head) (sym own_rule) ∙ heads_are (book b) p) b.requires.7
+    -- the choice is one of its
+    own_choice : c < count p.heads (get_or Q 0 0)
+    own_choice =
+        subst (λ (h : ℕ). c < count h (get_or Q 0 0)) (ap (λ (r : Rule). length r.head) (sym own_rule) ∙ heads_are B p) few
 
-small : (c : Start) → c.args.choice < most_choices
-small c =
-    let p : Parts = parts_at (book c) (get_or c.args.starts.now c.args.rule 0) in
-    let few = count_few p.heads (get_or c.args.member.now 0 0) (in_book_lem c p refl).few_head c.requires.3.few in
-    omega (arith, few, own_choice c p refl)
+  small : c < most_choices
+  small =
+      let p : Parts = parts_at B (get_or starts k 0) in
+      let most = count_few p.heads (get_or Q 0 0) (in_book_lem p refl).few_head q.few in
+      omega (arith, most, own_choice p refl)
 
 pub overflow_add-result : goal.overflow_add-result
 overflow_add-result c =
-    omega (arith, small c.before.before.before.before.before.before.before.before.before.before)
+    let p = c.requires in
+    omega (arith, small _ _ _ p.0 p.1 p.2 p.3 _ _ p.6 p.7)
 
 pub returns-then-now-gt0 : goal.returns-then-now-gt0
 returns-then-now-gt0 c = goes_next _ _ _ _
 
 pub offset_bounds-starts-rule : goal.offset_bounds-starts-rule
-offset_bounds-starts-rule c =
-    let back_9 = c.before.before.before.before.before.before.before.before.before in
-    omega (arith, c.requires.6, rules_few (book back_9) c.requires.0)
+offset_bounds-starts-rule c = omega (arith, c.requires.6, rules_few c.args.book.now c.requires.0)
 
 pub bounds-starts-rule : goal.bounds-starts-rule
-bounds-starts-rule c =
-    let back_10 = c.before.before.before.before.before.before.before.before.before.before in
-    start_inside (book back_10) c.requires.0 c.args.starts.now c.requires.2 _ c.requires.6
+bounds-starts-rule c = start_inside c.args.book.now c.requires.0 c.args.starts.now c.requires.2 _ c.requires.6
 
-pub rule_at-requires : goal.rule_at-requires
-rule_at-requires c =
-    let back_10 = c.before.before.before.before.before.before.before.before.before.before in
-    (start_fits (book back_10) c.requires.0 c.args.starts.now c.requires.2 _ c.requires.6, c.requires.1)
+pub rule_at-parts-requires : goal.rule_at-parts-requires
+rule_at-parts-requires c =
+    (start_fits c.args.book.now c.requires.0 c.args.starts.now c.requires.2 _ c.requires.6, c.requires.1)
 
 pub after_covered-from-requires : goal.after_covered-from-requires
 after_covered-from-requires c =
-    let back_11 = c.before.before.before.before.before.before.before.before.before.before.before in
-    let e = c.rule_at.ensures in
-    (c.requires.3, in_book_lem back_11 _ e, c.requires.4, c.requires.5, own_choice back_11 _ e, c.requires.8)
+    let p = c.requires in
+    let e = c.rule_at-parts.ensures in (
+      p.3,
+      in_book_lem _ _ _ p.0 p.1 p.2 p.3 _ _ p.6 p.7 _ e,
+      p.4,
+      p.5,
+      own_choice _ _ _ p.0 p.1 p.2 p.3 _ _ p.6 p.7 _ e,
+      p.8,
+    )
 
 pub overflow_add-choice : goal.overflow_add-choice
 overflow_add-choice c =
-    omega (arith, small c.before.before.before.before.before.before.before.before.before.before.before.before)
+    let p = c.requires in
+    omega (arith, small _ _ _ p.0 p.1 p.2 p.3 _ _ p.6 p.7)
 
 pub returns : goal.returns
 returns c =
-    let back_13 = c.before.before.before.before.before.before.before.before.before.before.before.before.before in
+    let p = c.requires in
     subst
     (λ (rule : Rule).
     GoesOn rule (question_of stored c.args.member.now) (held_from c.args.work.now first_at c.args.members)
     c.args.choice c.after_covered-from.result)
-    (own_rule back_13 _ c.rule_at.ensures) c.after_covered-from.ensures
+    (own_rule _ _ _ p.0 p.1 p.2 p.3 _ _ p.6 p.7 _ c.rule_at-parts.ensures) c.after_covered-from.ensures

@@ -1,5 +1,5 @@
 -- `explore::taking_up::next_rewriting` meets its contract. The loop's invariant: what is sought is the first rewriting
--- from the rule at hand on. The measure is the number of rules left.
+-- from the rule at hand on.
 use mathlib.Core.Path.{◌≡◌}
 use Prim.Native.Nat.{◌-◌}
 use lib.ListN.{drop}
@@ -10,9 +10,7 @@ use Rattle.explore.specs.Taking.{next_among}
 use Rattle.explore.proofs.taking_up.next_rewriting.Given as goal
 
 abbrev pub invariant-loop-rule : goal.invariant-loop-rule
-invariant-loop-rule l = (next_among (question_of stored l.member) l.k l.from (drop l.k (book_of l.book).rules)
-    ≡ next_among (question_of stored l.member) l.rule l.choice (rules_from l.book (rule_start l.book l.rule) (rules_of l.book - l.rule)))
+invariant-loop-rule l =
+    (next_among (question_of stored l.member) l.k l.from (drop l.k (book_of l.book).rules)
+    ≡ next_among (question_of stored l.member) l.rule l.first (rules_from l.book (rule_start l.book l.rule) (rules_of l.book - l.rule)))
     × (l.out ≡ l.initial.out)
-
-abbrev pub decreases-loop-rule : goal.decreases-loop-rule
-decreases-loop-rule l = l.rules - l.rule
