@@ -6,7 +6,11 @@ use Prim.Native.Nat.{ℕ, ◌≤◌, ◌<◌}
 use lib.ListN.{get_or}
 use lib.Seq.{ext_get_or}
 use Rattle.reading.specs.declared.Header.{Header}
-use Rattle.reading.specs.declared.Refusal.{Refusal}
+use Rattle.std.proofs.Common.{Result}
+use Rattle.reading.specs.declared.Refused.{Refused}
+use Rattle.reading.specs.Refusal.{Refusal}
+use Rattle.reading.specs.Told.{judged}
+use Rattle.reading.proofs.ToldOnce.{judged_once}
 use Rattle.reading.specs.Header.{rules, HeaderRead}
 use Rattle.reading.specs.Verdict.{IsVerdict, verdict}
 use Rattle.book.specs.Parts.{StartsAt}
@@ -21,8 +25,8 @@ use Rattle.book.proofs.question.Reads as question-reads
 
 module _ (B : List ℕ) where
   -- check: its contract names one refusal, and so does the statement over the conditions
-  pub check_determined : {r t : Refusal} → r ≡ verdict B → t ≡ verdict B → r ≡ t
-  check_determined e d = e ∙ sym d
+  pub check_determined : {r t : Result Unit Refused} → judged r ≡ verdict B → judged t ≡ verdict B → r ≡ t
+  check_determined {r} {t} e d = judged_once r t (e ∙ sym d)
 
   pub verdict_determined : {r t : Refusal} → IsVerdict B r → IsVerdict B t → r ≡ t
   verdict_determined v w = verdict_only B v ∙ sym (verdict_only B w)

@@ -4,6 +4,7 @@
 ghost use Rattle.std.specs.Prelude.{◌≡◌, ◌+◌, ◌≤◌, ltb, length};
 ghost use Rattle.reading.specs.Header.{HeaderRead, header_of, relations_at, header_size, form_of, new};
 ghost use Rattle.reading.specs.Book.{book_of};
+ghost use Rattle.reading.specs.Told.{judged};
 ghost use Rattle.reading.specs.Verdict.{verdict, SoundBook};
 ghost use Rattle.book.specs.Parts.{StartsAt, parts_at};
 ghost use Rattle.covering.specs.Asking.{joined};
@@ -13,10 +14,10 @@ ghost use Rattle.covering.specs.Buffer.{held_in, record_room};
 use covering::RECORD;
 pub use judging::answers;
 use judging::{
-    ATOM, NEW_HEADER, OLD_HEADER, OLD_PLACES, contents, header_for, in_table, offsets_right, wide,
-    word,
+    ATOM, NEW_HEADER, OLD_HEADER, OLD_PLACES, contents, header_for, in_table, offsets_right, word,
 };
-pub use reading::{Header, Refusal};
+pub use reading::Header;
+use reading::{Reason, Refused};
 
 // Where the body and the head of a rule start in the book, and how many atoms each has.
 #[derive(Clone, Copy)]
@@ -69,27 +70,27 @@ fn is_short(book: &[u8]) -> bool
 }
 
 // Whether a book is refused, for whatever bytes: the smallest number that applies, at the earliest place.
-pub fn check(book: &[u8]) -> Refusal
-    ensures { result ≡ verdict book.now }
+pub fn check(book: &[u8]) -> Result<(), Refused>
+    ensures { judged result ≡ verdict book.now }
 {
     if is_short(book) {
-        return Refusal {
-            number: 2,
+        return Err(Refused {
+            reason: Reason::ShortBook,
             place: 0,
-        };
+        });
     }
     let h = read(book);
     if !in_table(h) {
-        return Refusal {
-            number: 3,
+        return Err(Refused {
+            reason: Reason::OutsideTable,
             place: 0,
-        };
+        });
     }
     if !offsets_right(h, book.len()) {
-        return Refusal {
-            number: 4,
+        return Err(Refused {
+            reason: Reason::WrongOffset,
             place: 0,
-        };
+        });
     }
     contents(book, h)
 }
@@ -104,11 +105,9 @@ pub fn starts(book: &[u8]) -> [usize; 33]
     let mut at = [0usize; 33];
     let mut s = h.start;
     at[0] = s;
-    let mut k: usize = 0;
-    while k < n {
-        s = s + 2 + ATOM * (wide(book[s]) + wide(book[s + 1]));
-        k = k + 1;
-        at[k] = s;
+    for k in 0..n {
+        s += 2 + ATOM * (usize::from(book[s]) + usize::from(book[s + 1]));
+        at[k + 1] = s;
     }
     at
 }
@@ -118,8 +117,8 @@ pub fn rule_at(book: &[u8], s: usize) -> Parts
     requires { (s + 2 ≤ length book.now) × (form_of book.now ≡ new) }
     ensures { result ≡ parts_at book.now s }
 {
-    let b = wide(book[s]);
-    let h = wide(book[s + 1]);
+    let b = usize::from(book[s]);
+    let h = usize::from(book[s + 1]);
     Parts {
         body: s + 2,
         bodies: b,

@@ -1,6 +1,6 @@
 -- One step of each search for what has no old form, as the code goes: k of n are done, and n - k are left. Assumes
 -- nothing.
-use mathlib.Core.Path.{◌≡◌, sym, ◌∙◌, ap, subst}
+use mathlib.Core.Path.{◌≡◌, refl, sym, ◌∙◌, ap, subst}
 use mathlib.Core.Bool.{true, false}
 use mathlib.Core.List.{List}
 use mathlib.Core.Option.{Option, none, some}
@@ -18,7 +18,6 @@ use Rattle.reading.specs.Book.{body_count, head_count, body_at, rule_end, rule_s
 use Rattle.reading.specs.Verdict.{told, SoundBook}
 use Rattle.reading.specs.Copy.{wide_places, term_old, late_from, late_in_atoms, late_in_rules, no_old_form}
 use Rattle.reading.proofs.SoundBook.{sound_header, sound_rule}
-use Rattle.judging.proofs.JudgingSteps.{else_found, else_next}
 use Rattle.forms.specs.Late.{in_rules}
 
 module _ (B : List ℕ) where
@@ -75,26 +74,8 @@ module _ (B : List ℕ) where
       (omega (arith, (sound_rule B sound k l).ends, (sound_header B sound).ends))
 
   -- relations first, then the rules, then the question
-  abbrev pub in_relations : Option ℕ
-  in_relations = wide_places B (header_size B) (relations B)
-
-  abbrev in_rules_is : Option ℕ
-  in_rules_is = in_rules B
-
-  abbrev pub in_question : Option ℕ
-  in_question = late_in_atoms B (question_at B) (answer_records B + atoms B)
-
-  pub found_in_relations : ((told 13 in_relations).number ≡ 0 → ⊥) → told 13 (no_old_form B) ≡ told 13 in_relations
+  pub in_order : no_old_form B
+      ≡ or_else (wide_places B (header_size B) (relations B))
+      (or_else (in_rules B) (late_in_atoms B (question_at B) (answer_records B + atoms B)))
   unfolding no_old_form
-  found_in_relations f = else_found 13 in_relations (or_else in_rules_is in_question) f
-
-  module _ (e : (told 13 in_relations).number ≡ 0) where
-    past_relations : no_old_form B ≡ or_else in_rules_is in_question
-    unfolding no_old_form
-    past_relations = else_next 13 in_relations (or_else in_rules_is in_question) (omega arith) e
-
-    pub found_in_rules : ((told 13 in_rules_is).number ≡ 0 → ⊥) → told 13 (no_old_form B) ≡ told 13 in_rules_is
-    found_in_rules f = ap (told 13) past_relations ∙ else_found 13 in_rules_is in_question f
-
-    pub left_in_question : (told 13 in_rules_is).number ≡ 0 → told 13 (no_old_form B) ≡ told 13 in_question
-    left_in_question d = ap (told 13) (past_relations ∙ else_next 13 in_rules_is in_question (omega arith) d)
+  in_order = refl

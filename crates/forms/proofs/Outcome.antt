@@ -7,26 +7,31 @@ use mathlib.Core.Logic.{◌⊎◌, inl, inr}
 use mathlib.Core.Option.{Option, none, some}
 use Prim.Native.Nat.{ℕ, zero, suc, ◌≤◌, ◌<◌}
 use native.Mathlib.Omega.{arith}
-use borrow.Author.Tests.{eq-eqb}
+use borrow.Author.Tests.{eq-eqb, lt-ltb, le-ltb}
 use lib.Dec.{T, eqb, eqb→eq}
 use lib.ListN.{length, drop}
 use Rattle.covering.specs.Put.{Puts}
 use Rattle.covering.proofs.Putting.{put_as}
 use Rattle.covering.proofs.Tests.{decide, clash, le_or_lt, true→T}
-use Rattle.reading.specs.declared.Refusal.{Refusal}
+use Rattle.std.proofs.Common.{Result, Ok, Err}
+use Rattle.std.specs.Result.{IsErrAnd}
+use Rattle.std.proofs.lemmas.Result.{err_from_is_err_and}
+use Rattle.reading.specs.declared.Refused.{Refused}
+use Rattle.reading.specs.Refusal.{Refusal}
+use Rattle.reading.specs.Told.{number_of, judged, number_told, place_told}
+use Rattle.reading.proofs.ToldOnce.{some_number}
 use Rattle.reading.specs.Header.{BookForm, old, new, form_for}
 use Rattle.reading.specs.Book.{book_of}
 use Rattle.reading.specs.Verdict.{told, verdict, SoundBook}
 use Rattle.reading.specs.Written.{book_bytes}
 use Rattle.reading.specs.Copy.{no_old_form, Copied, copied, refused, copy_room, copy_answer, copy_written, Copies, CopiesNew}
-use Rattle.reading.specs.Copy.{CopiesOld, to_new, to_old}
+use Rattle.reading.specs.Copy.{CopiesOld, to_new, to_old, after_book}
 use Rattle.reading.proofs.Forms.{says_new_lem, says_old}
 use Rattle.reading.proofs.CopyCases.{to_new_sound, to_old_sound, to_old_not, to_new_room, to_old_room, to_new_own}
-use Rattle.reading.proofs.CopyCases.{to_old_own, copied≢refused}
+use Rattle.reading.proofs.CopyCases.{to_old_own, copied≢refused, little_room, book_refused}
 use Rattle.reading.proofs.Copies.{sound_fits_new, new_copy, old_copy}
 use Rattle.reading.proofs.OldFormExact.{none_fits}
-use Rattle.judging.proofs.JudgingSteps.{told_none}
-use Rattle.forms.specs.Ready.{BookReady}
+use Rattle.forms.specs.Ready.{BookReady, first_refusal}
 
 pub copies_none : {c : Copied} {n p : ℕ} (out : List ℕ) → c ≡ refused n p → Copies c out n p out
 copies_none out e =
@@ -57,52 +62,78 @@ new_own = ap (λ (f : BookForm). f.header) new_is
 pub old_own : (form_for 18).header ≡ 18
 old_own = ap (λ (f : BookForm). f.header) old_is
 
-module _ (B : List ℕ) {r : Refusal} (is : r ≡ verdict B) where
-  -- the book's own refusal
-  pub own_refusal : (r.number ≡ 0 → ⊥) → SoundBook B → ⊥
-  own_refusal f s = f (ap (λ (x : Refusal). x.number) is ∙ s)
+-- what a refusal says of a copy, and what a `?` hands on
+abbrev RefusedAs : Copied → Refused → Type 0
+RefusedAs c e = c ≡ refused (number_of e.reason) e.place
 
-  pub own_told : refused (verdict B).number (verdict B).place ≡ refused r.number r.place
-  own_told = ap (λ (x : Refusal). refused x.number x.place) (sym is)
+pub copies_refused : {c : Copied} (out : List ℕ) (r : Result ℕ Refused) (e : Refused) → IsErrAnd r (λ x. x ≡ e)
+    → RefusedAs c e → Copies c out (number_told r) (place_told r) out
+copies_refused out r e h d = let p = err_from_is_err_and r h in rw (p.1, p.2) (copies_none out d)
 
-  -- or it is sound
-  module _ (e : r.number ≡ 0) where
-    pub is_sound : SoundBook B
-    is_sound = ap (λ (x : Refusal). x.number) (sym is) ∙ e
-
-    pub new_ready : BookReady B (form_for 20)
-    new_ready =
-        subst (BookReady B) (sym new_is) (record { sound = is_sound; fits = sound_fits_new B is_sound })
-
-    pub old_ready : no_old_form B ≡ none → BookReady B (form_for 18)
-    old_ready n = subst (BookReady B) (sym old_is) (record { sound = is_sound; fits = none_fits B is_sound n })
-
-    module _ {out after : List ℕ} {end : ℕ} (long : copy_room ≤ length out) where
-      pub new_copied : Puts (book_bytes (form_for 20) (book_of B)) out 0 end after → CopiesNew B out 0 end after
-      new_copied p =
-          copies_put (to_new_sound B (length out) long is_sound)
-          (put_as (ap (λ (f : BookForm). book_bytes f (book_of B)) (sym new_is)) p)
-
-      pub old_copied : no_old_form B ≡ none → Puts (book_bytes (form_for 18) (book_of B)) out 0 end after
-          → CopiesOld B out 0 end after
-      old_copied n p =
-          copies_put (to_old_sound B (length out) long is_sound n)
-          (put_as (ap (λ (f : BookForm). book_bytes f (book_of B)) (sym old_is)) p)
-
--- 13: where the search found nothing, and where it found a byte
-module _ (B : List ℕ) {o : Refusal} (is : o ≡ told 13 (no_old_form B)) where
-  pub none_found : o.number ≡ 0 → no_old_form B ≡ none
-  none_found e = told_none 13 (no_old_form B) (omega arith) (ap (λ (x : Refusal). x.number) (sym is) ∙ e)
-
-  pub old_refused : (room : ℕ) → copy_room ≤ room → SoundBook B → (o.number ≡ 0 → ⊥)
-      → to_old B room ≡ refused o.number o.place
-  old_refused room long s f = go (no_old_form B) refl
+module _ (B : List ℕ) (room : ℕ) where
+  -- it is refused before the copy is made
+  pub first_refused : (c : Copied) (e : Refused) → judged (Err e) ≡ first_refusal B room → RefusedAs (after_book B room c) e
+  first_refused c e h = go (le_or_lt copy_room room)
     where
-      go : (x : Option ℕ) → no_old_form B ≡ x → to_old B room ≡ refused o.number o.place
-      go none e = absurd (f (ap (λ (x : Refusal). x.number) (is ∙ ap (told 13) e)))
-      go (some p) e =
-          to_old_not B room long s p e
-          ∙ ap (λ (x : Refusal). refused x.number x.place) (sym (is ∙ ap (told 13) e))
+      told_by : (r : Refusal) → judged (Err e) ≡ r → refused r.number r.place ≡ refused (number_of e.reason) e.place
+      told_by r d = ap (λ (x : Refusal). refused x.number x.place) (sym d)
+
+      own : copy_room ≤ room → judged (Err e) ≡ verdict B
+      own l = h ∙ rw (le-ltb room copy_room l)
+
+      go : (copy_room ≤ room) ⊎ (room < copy_room) → RefusedAs (after_book B room c) e
+      go (inl l) =
+          book_refused B room c l
+          (λ s. omega (arith, some_number e.reason, ap (λ (x : Refusal). x.number) (own l), s))
+          ∙ told_by (verdict B) (own l)
+      go (inr l) = little_room B room c l ∙ told_by (record { number = 1; place = 0 }) (h ∙ rw (lt-ltb room copy_room l))
+
+  -- or there is room, and the book is sound
+  module _ (h : judged (Ok tt) ≡ first_refusal B room) where
+    pub is_room : copy_room ≤ room
+    is_room = go (le_or_lt copy_room room)
+      where
+        go : (copy_room ≤ room) ⊎ (room < copy_room) → copy_room ≤ room
+        go (inl l) = l
+        go (inr l) =
+            let d : judged (Ok tt) ≡ (let x : Refusal = record { number = 1; place = 0 } in x) = h ∙ rw (lt-ltb room copy_room l) in
+            absurd (omega (arith, ap (λ (x : Refusal). x.number) d))
+
+    pub is_sound : SoundBook B
+    is_sound =
+        let d : judged (Ok tt) ≡ verdict B = h ∙ rw (le-ltb room copy_room is_room) in
+        ap (λ (x : Refusal). x.number) (sym d)
+
+module _ (B : List ℕ) (sound : SoundBook B) where
+  pub new_ready : BookReady B (form_for 20)
+  new_ready = subst (BookReady B) (sym new_is) (record { sound = sound; fits = sound_fits_new B sound })
+
+  pub old_ready : no_old_form B ≡ none → BookReady B (form_for 18)
+  old_ready n = subst (BookReady B) (sym old_is) (record { sound = sound; fits = none_fits B sound n })
+
+  module _ {out after : List ℕ} {end : ℕ} (long : copy_room ≤ length out) where
+    pub new_copied : Puts (book_bytes (form_for 20) (book_of B)) out 0 end after → CopiesNew B out 0 end after
+    new_copied p =
+        copies_put (to_new_sound B (length out) long sound)
+        (put_as (ap (λ (f : BookForm). book_bytes f (book_of B)) (sym new_is)) p)
+
+    pub old_copied : no_old_form B ≡ none → Puts (book_bytes (form_for 18) (book_of B)) out 0 end after
+        → CopiesOld B out 0 end after
+    old_copied n p =
+        copies_put (to_old_sound B (length out) long sound n)
+        (put_as (ap (λ (f : BookForm). book_bytes f (book_of B)) (sym old_is)) p)
+
+  -- 13, where the search found a byte
+  pub old_refused : (room : ℕ) → copy_room ≤ room → (e : Refused) → judged (Err e) ≡ told 13 (no_old_form B)
+      → RefusedAs (to_old B room) e
+  old_refused room long e h = go (no_old_form B) refl
+    where
+      go : (x : Option ℕ) → no_old_form B ≡ x → RefusedAs (to_old B room) e
+      go none d =
+          absurd (omega (arith, some_number e.reason, ap (λ (x : Refusal). x.number) (h ∙ ap (told 13) d)))
+      go (some p) d =
+          to_old_not B room long sound p d
+          ∙ ap (λ (x : Refusal). refused x.number x.place) (sym (h ∙ ap (told 13) d))
 
 -- where a copy is not refused, its length is within the room
 zero_within : (c : Copied) → ((m q : ℕ) → c ≡ refused m q → 0 < m)

@@ -1,12 +1,14 @@
 -- What is known of a book, and of a rule of it, that is to be put in a form.
-use Rattle.std.specs.Prelude.{List, ℕ, ◌≤◌, length}
+use Rattle.std.specs.Prelude.{List, ℕ, ◌≤◌, length, cond, ltb}
 use Rattle.covering.specs.Lists.{◌∈◌}
 use Rattle.covering.specs.Term.{Atom}
 use Rattle.covering.specs.Record.{holding}
 use Rattle.covering.specs.Buffer.{AtomsIn}
 use Rattle.reading.specs.Header.{BookForm, atom_places}
 use Rattle.reading.specs.Book.{body_at, body_count, head_at, head_count, rule_at, book_of}
-use Rattle.reading.specs.Verdict.{SoundBook}
+use Rattle.reading.specs.Refusal.{Refusal}
+use Rattle.reading.specs.Verdict.{verdict, SoundBook}
+use Rattle.reading.specs.Copy.{copy_room}
 use Rattle.reading.specs.Written.{BookFits}
 
 -- the rule at s: its atoms stand in the book, and none of them uses more places than the form has
@@ -20,3 +22,7 @@ pub record RuleReady (B : List ℕ) (s : ℕ) (f : BookForm) : Type 0 where
 pub record BookReady (B : List ℕ) (f : BookForm) : Type 0 where
   pub sound : SoundBook B
   pub fits : BookFits f (book_of B)
+
+-- of a copy: "1 for room under 2,003 bytes, then the book's own 2 to 7 and 11"
+abbrev pub first_refusal : List ℕ → ℕ → Refusal
+first_refusal B room = cond (ltb room copy_room) (record { number = 1; place = 0 }) (verdict B)

@@ -1,72 +1,53 @@
 // The two copies.
+ghost use Rattle.std.specs.Prelude.{◌≡◌, length};
+ghost use Rattle.reading.specs.Told.{judged, number_told, place_told};
 ghost use Rattle.reading.specs.Copy.{CopiesNew, CopiesOld};
+ghost use Rattle.forms.specs.Ready.{first_refusal};
 
+use crate::BOOK;
 use crate::old_form::no_old_form;
 use crate::put::put_book;
-use crate::{BOOK, Copy};
 use book::check;
 use judging::{NEW_HEADER, OLD_HEADER};
+use reading::{Reason, Refused};
 
-// The book in the new form: refused 1 where there is too little room, then as the book itself is.
-pub fn to_new(book: &[u8], out: &mut [u8]) -> Copy
+// Refused 1 where there is too little room, then as the book itself is.
+fn ready(book: &[u8], room: usize) -> Result<(), Refused>
+    ensures { judged result ≡ first_refusal book.now room }
+{
+    if room < BOOK {
+        return Err(Refused {
+            reason: Reason::ShortOutput,
+            place: 0,
+        });
+    }
+    check(book)
+}
+
+// The book in the new form, and its length: refused 1 where there is too little room, then as the book itself is.
+pub fn to_new(book: &[u8], out: &mut [u8]) -> Result<usize, Refused>
     ensures { CopiesNew
         book.now
         out.old
-        result.number
-        result.place
+        (number_told result)
+        (place_told result)
         out.new }
 {
-    if out.len() < BOOK {
-        return Copy {
-            number: 1,
-            place: 0,
-        };
-    }
-    let r = check(book);
-    if r.number != 0 {
-        return Copy {
-            number: r.number,
-            place: r.place,
-        };
-    }
-    Copy {
-        number: 0,
-        place: put_book(book, out, NEW_HEADER),
-    }
+    ready(book, out.len())?;
+    Ok(put_book(book, out, NEW_HEADER))
 }
 
-// The book in the old form: refused 1 where there is too little room, then as the book itself is, then 13 where it has
-// none.
-pub fn to_old(book: &[u8], out: &mut [u8]) -> Copy
+// The book in the old form, and its length: refused 1 where there is too little room, then as the book itself is, then 13
+// where it has none.
+pub fn to_old(book: &[u8], out: &mut [u8]) -> Result<usize, Refused>
     ensures { CopiesOld
         book.now
         out.old
-        result.number
-        result.place
+        (number_told result)
+        (place_told result)
         out.new }
 {
-    if out.len() < BOOK {
-        return Copy {
-            number: 1,
-            place: 0,
-        };
-    }
-    let r = check(book);
-    if r.number != 0 {
-        return Copy {
-            number: r.number,
-            place: r.place,
-        };
-    }
-    let o = no_old_form(book);
-    if o.number != 0 {
-        return Copy {
-            number: o.number,
-            place: o.place,
-        };
-    }
-    Copy {
-        number: 0,
-        place: put_book(book, out, OLD_HEADER),
-    }
+    ready(book, out.len())?;
+    no_old_form(book)?;
+    Ok(put_book(book, out, OLD_HEADER))
 }

@@ -9,10 +9,3 @@ pub use copying::{to_new, to_old};
 
 // The room that a copy is given, which every book has enough of.
 pub const BOOK: usize = 2003;
-
-// What became of a copy: 0 and its length, or the refusal's number and place.
-#[derive(Clone, Copy)]
-pub struct Copy {
-    pub number: u8,
-    pub place: usize,
-}

@@ -10,7 +10,7 @@ ghost use Rattle.reading.specs.Copy.{copy_room};
 ghost use Rattle.forms.specs.Ready.{RuleReady, BookReady};
 
 use book::{Header, answers, read};
-use judging::{places_for, wide};
+use judging::places_for;
 use records::copy_atoms;
 use writing::put_word;
 
@@ -24,10 +24,8 @@ fn put_bytes(from: &[u8], i: usize, n: usize, out: &mut [u8], at: usize) -> usiz
         result
         out.new }
 {
-    let mut k = 0;
-    while k < n {
+    for k in 0..n {
         out[at + k] = from[i + k];
-        k += 1;
     }
     at + n
 }
@@ -43,10 +41,8 @@ fn put_words(words: &[usize], n: usize, out: &mut [u8]) -> usize
         out.new }
 {
     let mut at = 0;
-    let mut k = 0;
-    while k < n {
+    for k in 0..n {
         at = put_word(out, at, words[k]);
-        k += 1;
     }
     at
 }
@@ -68,8 +64,8 @@ fn put_rule(book: &[u8], s: usize, w: usize, out: &mut [u8], at: usize, table: u
     let heads = book[s + 1];
     out[at] = bodies;
     out[at + 1] = heads;
-    let b = wide(bodies);
-    let h = wide(heads);
+    let b = usize::from(bodies);
+    let h = usize::from(heads);
     let end = copy_atoms(book, s + 2, b, w, out, at + 2, v);
     copy_atoms(book, s + 2 + (1 + w) * b, h, w, out, end, v)
 }
@@ -90,11 +86,9 @@ fn put_rules(book: &[u8], h: Header, out: &mut [u8], at: usize, table: usize) ->
     let w = h.places;
     let mut s = h.start;
     let mut end = at;
-    let mut k = 0;
-    while k < n {
+    for k in 0..n {
         end = put_rule(book, s, w, out, end, table);
-        s = s + 2 + (1 + w) * (wide(book[s]) + wide(book[s + 1]));
-        k += 1;
+        s += 2 + (1 + w) * (usize::from(book[s]) + usize::from(book[s + 1]));
     }
     end
 }

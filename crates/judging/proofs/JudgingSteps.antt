@@ -4,52 +4,64 @@ use mathlib.Core.Bool.{Bool, true, false, cond}
 use mathlib.Core.List.{List}
 use mathlib.Core.Option.{Option, none, some}
 use Prim.Native.Nat.{ℕ, ◌+◌, ◌*◌, ◌-◌, ◌≤◌, ◌<◌}
-use native.Mathlib.Nat.{sub-eq-zero_of_le}
+use native.Mathlib.Nat.{sub-eq-zero_of_le, mul-le-mul_left}
 use native.Mathlib.Omega.{arith}
 use borrow.Author.Tests.{le-leb, lt-leb, lt-ltb, le-ltb}
 use lib.Dec.{ltb}
 use lib.ListN.{length}
 use Rattle.covering.specs.Lists.{or_else}
 use Rattle.covering.proofs.Tests.{no→false, true→T, none≢some, one_more}
-use Rattle.reading.specs.declared.Refusal.{Refusal}
+use Rattle.std.proofs.Common.{Result, Ok, Err, Some, None}
+use Rattle.std.specs.Result.{IsErrAnd}
+use Rattle.std.proofs.lemmas.Result.{err_from_is_err_and}
+use Rattle.reading.specs.declared.Refused.{Refused}
+use Rattle.reading.specs.Refusal.{Refusal}
+use Rattle.reading.specs.Told.{judged}
+use Rattle.reading.proofs.ToldOnce.{some_number}
 use Rattle.reading.specs.Word.{byte}
 use Rattle.reading.specs.Header.{header_size, relations, constants, rules, atoms, question_at, header_of, inside}
 use Rattle.reading.specs.Header.{places_range, form_of, atom_size, atom_places, variables, question_atoms_at}
 use Rattle.reading.specs.Book.{body_count, head_count, body_at, rule_end, rules_start, places_of}
 use Rattle.reading.specs.Refusals.{place_allowed}
 use Rattle.reading.specs.Verdict.{wrong_places, rule_right, wrong_rule, wrong_place, wrong_in_atom, wrong_in_atoms}
-use Rattle.reading.specs.Verdict.{wrong_in_rules, wrong_in_question, wrong_byte, loose_variable, refuse, told, in_table}
+use Rattle.reading.specs.Verdict.{wrong_in_rules, wrong_in_question, wrong_byte, loose_variable, refuse, told, accepted, in_table}
 use Rattle.reading.specs.Verdict.{offsets_right, contents, verdict}
 use Rattle.judging.specs.Judged.{wrong_record}
 use Rattle.reading.proofs.Conditions.{rule_right_lem}
 
--- the bytes of n - k things of z bytes each: those of the next one, and of the rest
-pub bytes_left : (z n k : ℕ) → k < n → z * (n - k) ≡ z + z * (n - (k + 1))
-bytes_left z n k l = ap (λ (m : ℕ). z * m) (one_more n k l) ∙ omega arith
+-- the bytes of a thing after k of n, of z bytes each
+pub bytes_within : (z n k : ℕ) → k < n → z * k + z ≤ z * n
+bytes_within z n k l = let m : k + 1 ≤ n = omega arith in omega (arith, mul-le-mul_left z m)
 
-pub same_number : {r t : Refusal} → r ≡ t → r.number ≡ t.number
-same_number e = ap (λ (x : Refusal). x.number) e
+no_refusal : (e : Refused) → judged (Err e) ≡ accepted → ⊥
+no_refusal e h = omega (arith, some_number e.reason, ap (λ (x : Refusal). x.number) h)
 
--- an answer with a number is the answer; without one, the next search's is
-pub refuse_found : (n : ℕ) (o : Option ℕ) (r : Refusal) → ((told n o).number ≡ 0 → ⊥) → refuse n o r ≡ told n o
-refuse_found n none r f = absurd (f refl)
-refuse_found n (some p) r f = refl
+-- a refusal is that of the search which found it, whatever comes after; where nothing is told, nothing was found
+module _ (n : ℕ) (o : Option ℕ) where
+  pub stops_else : (r : Option ℕ) (e : Refused) → judged (Err e) ≡ told n o → judged (Err e) ≡ told n (or_else o r)
+  stops_else r e =
+      elim o as (λ x. judged (Err e) ≡ told n x → judged (Err e) ≡ told n (or_else x r))
+      [ none ↦ λ h. absurd (no_refusal e h) | some p ↦ λ h. h ]
 
-pub refuse_next : (n : ℕ) (o : Option ℕ) (r : Refusal) → 0 < n → (told n o).number ≡ 0 → refuse n o r ≡ r
-refuse_next n none r l e = refl
-refuse_next n (some p) r l e = absurd (omega arith)
+  pub stops_there : (r : Refusal) (e : Refused) → judged (Err e) ≡ told n o → judged (Err e) ≡ refuse n o r
+  stops_there r e =
+      elim o as (λ x. judged (Err e) ≡ told n x → judged (Err e) ≡ refuse n x r)
+      [ none ↦ λ h. absurd (no_refusal e h) | some p ↦ λ h. h ]
 
-pub told_none : (n : ℕ) (o : Option ℕ) → 0 < n → (told n o).number ≡ 0 → o ≡ none
-told_none n none l e = refl
-told_none n (some p) l e = absurd (omega arith)
+  pub found_none : 0 < n → judged (Ok tt) ≡ told n o → o ≡ none
+  found_none l =
+      elim o as (λ x. judged (Ok tt) ≡ told n x → x ≡ none)
+      [ none ↦ λ h. refl | some p ↦ λ h. absurd (omega (arith, ap (λ (x : Refusal). x.number) h)) ]
 
-pub else_found : (n : ℕ) (o r : Option ℕ) → ((told n o).number ≡ 0 → ⊥) → told n (or_else o r) ≡ told n o
-else_found n none r f = absurd (f refl)
-else_found n (some p) r f = refl
+  pub passes_else : (r : Option ℕ) → 0 < n → judged (Ok tt) ≡ told n o → or_else o r ≡ r
+  passes_else r l h = rw (found_none l h)
 
-pub else_next : (n : ℕ) (o r : Option ℕ) → 0 < n → (told n o).number ≡ 0 → or_else o r ≡ r
-else_next n none r l e = refl
-else_next n (some p) r l e = absurd (omega arith)
+  pub passes_there : (r : Refusal) → 0 < n → judged (Ok tt) ≡ told n o → refuse n o r ≡ r
+  passes_there r l h = rw (found_none l h)
+
+-- what a `?` hands on
+pub handed : (r : Result Unit Refused) (e : Refused) {t : Refusal} → IsErrAnd r (λ x. x ≡ e) → judged (Err e) ≡ t → judged r ≡ t
+handed r e h d = let p = err_from_is_err_and r h in rw (p.1, p.2) d
 
 module _ (B : List ℕ) where
   pub places_end : (i n k : ℕ) → n ≤ k → wrong_places B i (n - k) ≡ none
@@ -87,20 +99,17 @@ module _ (B : List ℕ) where
   pub rule_short : (e s : ℕ) → e < s + 2 → rule_right B e s ≡ false
   rule_short e s h = no→false (rule_right B e s) (λ t. let l = (rule_right_lem B e s t).ends in omega arith)
 
-  -- the end of a rule, or 0 where it is wrong
-  pub end_wrong : (e s : ℕ) → cond (rule_right B e s) (rule_end B s) 0 ≡ 0 → rule_right B e s ≡ false
-  end_wrong e s = go (rule_right B e s)
-    where
-      go : (b : Bool) → cond b (rule_end B s) 0 ≡ 0 → b ≡ false
-      go true h = absurd (omega arith)
-      go false h = refl
+  -- the end of a rule, where it is right
+  pub end_wrong : (e s : ℕ) → cond (rule_right B e s) (Some (rule_end B s)) None ≡ None → rule_right B e s ≡ false
+  end_wrong e s =
+      elim (rule_right B e s) as (λ b. cond b (Some (rule_end B s)) None ≡ None → b ≡ false)
+      [ true ↦ λ h. cc | false ↦ λ h. refl ]
 
-  pub end_right : (e s : ℕ) → (cond (rule_right B e s) (rule_end B s) 0 ≡ 0 → ⊥) → rule_right B e s ≡ true
-  end_right e s = go (rule_right B e s)
-    where
-      go : (b : Bool) → (cond b (rule_end B s) 0 ≡ 0 → ⊥) → b ≡ true
-      go true f = refl
-      go false f = absurd (f refl)
+  pub end_right : (e s next : ℕ) → Some next ≡ cond (rule_right B e s) (Some (rule_end B s)) None
+      → (rule_right B e s ≡ true) × (next ≡ rule_end B s)
+  end_right e s next =
+      elim (rule_right B e s) as (λ b. Some next ≡ cond b (Some (rule_end B s)) None → (b ≡ true) × (next ≡ rule_end B s))
+      [ true ↦ λ h. (refl, cc) | false ↦ λ h. cc ]
 
   -- what is known of the next of n - k rules that are right
   pub record NextRule (e s left : ℕ) : Type 0 where
@@ -166,53 +175,21 @@ module _ (B : List ℕ) where
   abbrev pub in_rules_is : Option ℕ
   in_rules_is = wrong_in_rules B (rules_start B) (rules B)
 
-  pub byte_in_rules : ((told 7 in_rules_is).number ≡ 0 → ⊥) → told 7 (wrong_byte B) ≡ told 7 in_rules_is
-  unfolding wrong_byte
-  byte_in_rules f = else_found 7 in_rules_is (wrong_in_question B) f
-
-  pub byte_in_question : (told 7 in_rules_is).number ≡ 0 → told 7 (wrong_byte B) ≡ told 7 (wrong_in_question B)
-  unfolding wrong_byte
-  byte_in_question e = ap (told 7) (else_next 7 in_rules_is (wrong_in_question B) (omega arith) e)
-
   -- in the question: its answer record, if it has one, then its atoms
-  pub question_in_answer : ((told 7 (wrong_record B)).number ≡ 0 → ⊥)
-      → told 7 (wrong_in_question B) ≡ told 7 (wrong_record B)
+  abbrev pub in_question_atoms : Option ℕ
+  in_question_atoms = wrong_in_atoms B (question_atoms_at B) (atoms B)
+
+  pub byte_is : wrong_byte B ≡ or_else in_rules_is (wrong_in_question B)
+  unfolding wrong_byte
+  byte_is = refl
+
+  pub question_is : wrong_in_question B ≡ or_else (wrong_record B) in_question_atoms
   unfolding wrong_in_question
-  question_in_answer f = else_found 7 (wrong_record B) (wrong_in_atoms B (question_atoms_at B) (atoms B)) f
+  question_is = refl
 
-  pub question_in_atoms : (told 7 (wrong_record B)).number ≡ 0
-      → told 7 (wrong_in_question B) ≡ told 7 (wrong_in_atoms B (question_atoms_at B) (atoms B))
-  unfolding wrong_in_question
-  question_in_atoms e =
-      ap (told 7) (else_next 7 (wrong_record B) (wrong_in_atoms B (question_atoms_at B) (atoms B)) (omega arith) e)
-
-  -- what is left where 5 does not apply, and where 6 does not
-  abbrev after_six : Refusal
-  after_six = refuse 7 (wrong_byte B) (told 11 (loose_variable B))
-
-  abbrev after_five : Refusal
-  after_five = refuse 6 six after_six
-
-  pub contents_five : ((told 5 five).number ≡ 0 → ⊥) → contents B ≡ told 5 five
+  pub contents_is : contents B ≡ refuse 5 five (refuse 6 six (refuse 7 (wrong_byte B) (told 11 (loose_variable B))))
   unfolding contents
-  contents_five f = refuse_found 5 five after_five f
-
-  module _ (e : (told 5 five).number ≡ 0) where
-    pub contents_six : ((told 6 six).number ≡ 0 → ⊥) → contents B ≡ told 6 six
-    unfolding contents
-    contents_six f = refuse_next 5 five after_five (omega arith) e ∙ refuse_found 6 six after_six f
-
-    module _ (d : (told 6 six).number ≡ 0) where
-      contents_bytes : contents B ≡ after_six
-      unfolding contents
-      contents_bytes = refuse_next 5 five after_five (omega arith) e ∙ refuse_next 6 six after_six (omega arith) d
-
-      pub contents_seven : ((told 7 (wrong_byte B)).number ≡ 0 → ⊥) → contents B ≡ told 7 (wrong_byte B)
-      contents_seven f = contents_bytes ∙ refuse_found 7 (wrong_byte B) (told 11 (loose_variable B)) f
-
-      pub contents_eleven : (told 7 (wrong_byte B)).number ≡ 0 → contents B ≡ told 11 (loose_variable B)
-      contents_eleven h =
-          contents_bytes ∙ refuse_next 7 (wrong_byte B) (told 11 (loose_variable B)) (omega arith) h
+  contents_is = refl
 
   pub verdict_two : length B < header_size B → verdict B ≡ record { number = 2; place = 0 }
   unfolding verdict

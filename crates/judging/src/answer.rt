@@ -6,21 +6,19 @@ ghost use Rattle.covering.specs.Record.{holding, args_at, atoms_at};
 ghost use Rattle.reading.specs.Refusals.{used_places};
 ghost use Rattle.reading.specs.Verdict.{stands_in};
 
-use super::words::{UNUSED, variables, wide};
+use super::words::{UNUSED, variables};
 
 // How many of the n places from i on are used: those before the first 255.
 pub fn used_places(book: &[u8], i: usize, n: usize) -> usize
     requires { i + n ≤ length book.now }
     ensures { result ≡ used_places book.now i n }
 {
-    let mut w: usize = 0;
-    while w < n {
-        if wide(book[i + w]) == UNUSED {
+    for w in 0..n {
+        if usize::from(book[i + w]) == UNUSED {
             return w;
         }
-        w = w + 1;
     }
-    w
+    n
 }
 
 // Whether the variable b stands in a used place among the n from i on.
@@ -28,16 +26,14 @@ fn stands_at(book: &[u8], i: usize, n: usize, b: usize) -> bool
     requires { (i + n ≤ length book.now) × (b < 128) }
     ensures { result ≡ any (eq_term (var b)) (args_at book.now i n) }
 {
-    let mut w: usize = 0;
-    while w < n {
-        let x = wide(book[i + w]);
+    for w in 0..n {
+        let x = usize::from(book[i + w]);
         if x == UNUSED {
             return false;
         }
         if x == b {
             return true;
         }
-        w = w + 1;
     }
     false
 }
@@ -50,14 +46,10 @@ pub fn stands(book: &[u8], i: usize, n: usize, w: usize, b: usize) -> bool
     if variables(w) <= b {
         return true;
     }
-    let mut at = i;
-    let mut k: usize = 0;
-    while k < n {
-        if stands_at(book, at + 1, w, b) {
+    for k in 0..n {
+        if stands_at(book, i + (1 + w) * k + 1, w, b) {
             return true;
         }
-        at = at + 1 + w;
-        k = k + 1;
     }
     false
 }

@@ -2,11 +2,12 @@
 #![tactic(auto)]
 
 mod answer;
+mod headed;
 mod header;
 mod judge;
 mod words;
 
+pub use headed::contents;
 pub use header::{answers, header_for, in_table, offsets_right, places_for};
-pub use judge::contents;
-use reading::{Header, Refusal};
-pub use words::{ATOM, NEW_HEADER, OLD_HEADER, OLD_PLACES, PLACES, wide, word};
+use reading::Header;
+pub use words::{ATOM, NEW_HEADER, OLD_HEADER, OLD_PLACES, PLACES, word};

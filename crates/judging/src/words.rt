@@ -23,19 +23,12 @@ pub const UNUSED: usize = 255;
 
 pub const ANSWER: usize = 255;
 
-// A byte as a number.
-pub fn wide(x: u8) -> usize
-    ensures { (result ≡ x) × (result < 256) }
-{
-    x as usize
-}
-
 // The little-endian word at i.
 pub fn word(s: &[u8], i: usize) -> usize
     requires { i + 2 ≤ length s.now }
     ensures { (result ≡ word_at s.now i) × (result < 65536) }
 {
-    wide(s[i]) + 256 * wide(s[i + 1])
+    usize::from(s[i]) + 256 * usize::from(s[i + 1])
 }
 
 // The bytes of n atoms of w places.

@@ -8,7 +8,7 @@ use Prim.Native.Nat.{ℕ, ◌+◌, ◌≤◌, ◌<◌}
 use native.Mathlib.Omega.{arith}
 use lib.Dec.{T, leb}
 use lib.ListN.{length}
-use Rattle.reading.specs.declared.Refusal.{Refusal}
+use Rattle.reading.specs.Refusal.{Refusal}
 use Rattle.reading.specs.Header.{header_size, relations, rules, question_at, header_of}
 use Rattle.reading.specs.Book.{rules_start, rule_start}
 use Rattle.reading.specs.Refusals.{Short, OutsideTable, OffsetWrong, PlacesWrong, RuleWrong, ByteWrong}

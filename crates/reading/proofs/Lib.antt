@@ -46,3 +46,5 @@ pub mod CopyCases
 pub mod Copies
 pub mod NewCopy
 pub mod CopyExample
+-- what is told of a book determines the result
+pub mod ToldOnce

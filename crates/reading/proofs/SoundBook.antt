@@ -14,7 +14,7 @@ use Rattle.covering.specs.Record.{Layout, holding, stored, size, atom_at, is_ter
 use Rattle.covering.proofs.Tests.{decide, clash, or_cases, fst_of, snd_of, none≢some, le_or_lt, true→T}
 use Rattle.covering.proofs.Places.{is_variable, is_constant, is_atom_lem, are_atoms_lem, atom_args}
 use Rattle.covering.proofs.Bytes.{relation_in}
-use Rattle.reading.specs.declared.Refusal.{Refusal}
+use Rattle.reading.specs.Refusal.{Refusal}
 use Rattle.reading.specs.Word.{byte}
 use Rattle.reading.specs.Header.{new, form_of}
 use Rattle.reading.specs.Header.{header_size, relations, constants, rules, question_at, header_of, atom_size}

@@ -3,6 +3,7 @@ pub mod Word
 pub mod Header
 pub mod Book
 pub mod Refusals
+pub mod Refusal
 pub mod Told
 pub mod Verdict
 pub mod Written

@@ -5,7 +5,7 @@ use Rattle.reading.specs.declared.Reason.{Reason}
 use Rattle.reading.specs.declared.Reason.TheVariants.{ShortOutput, ShortBook, OutsideTable, WrongOffset, WrongRelation, WrongRule}
 use Rattle.reading.specs.declared.Reason.TheVariants.{WrongByte, TooLong, NoRoom, NoneLeft, LooseAnswer, NoOldForm}
 use Rattle.reading.specs.declared.Refused.{Refused}
-use Rattle.reading.specs.declared.Refusal.{Refusal}
+use Rattle.reading.specs.Refusal.{Refusal}
 
 -- "Refusal numbers"; 11 of 02, a), and 13 of 02, i)
 abbrev pub number_of : Reason → ℕ

@@ -8,7 +8,7 @@ use Rattle.covering.specs.Lists.{any, or_else}
 use Rattle.covering.specs.Term.{var, Question, terms, eq_term}
 use Rattle.covering.specs.Asking.{answer_relation}
 use Rattle.reading.specs.declared.Header.{Header}
-use Rattle.reading.specs.declared.Refusal.{Refusal}
+use Rattle.reading.specs.Refusal.{Refusal}
 use Rattle.reading.specs.Word.{byte}
 use Rattle.reading.specs.Header.{header_size, relations, constants, rules, atoms, question_at, header_of, inside}
 use Rattle.reading.specs.Header.{relations_range, constants_range, rules_range, atoms_range, allowed_range}

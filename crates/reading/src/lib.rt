@@ -1,5 +1,5 @@
 // The definitions of the stored book and of its refusals, and their laws: specs/ and proofs/. The code is in `book`;
-// declared here are the two answers that the definitions speak of.
+// declared here are the header and the refusal that the definitions speak of.
 #![tactic(auto)]
 
 ghost use Rattle.std.specs.Prelude.{◌≡◌};
@@ -19,13 +19,6 @@ pub struct Header {
     pub question: usize,
     pub total: usize,
     pub places: usize,
-}
-
-// Why a book is refused, and the place; 0 and 0 where it is not.
-#[derive(Clone, Copy)]
-pub struct Refusal {
-    pub number: u8,
-    pub place: usize,
 }
 
 // Why nothing is written, in the order of 01's numbers: 1 to 11, and 13.

@@ -19,7 +19,7 @@ pub returns : goal.returns
 returns c =
     let a = c.args in
     let seven = new_head a.book.now c.requires.1 a.s in
-    let b = c.wide-b.ensures.0 in
-    let h = c.wide-h.ensures.0 in
+    let b = c.from-b.ensures in
+    let h = c.from-h.ensures in
     parts_are a.book.now a.s (omega arith) (omega (arith, b, h)) (omega (arith, b, seven))
     (omega (arith, b, h))

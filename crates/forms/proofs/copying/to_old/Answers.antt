@@ -1,65 +1,39 @@
 -- `forms::copying::to_old` meets its contract: too little room, then the book's own, then what has no old form, then
 -- the copy.
-use native.Mathlib.Omega.{arith}
-use mathlib.Core.Path.{◌∙◌}
-use Prim.Native.Nat.{◌≤◌, ◌<◌}
-use lib.ListN.{length}
+use Rattle.std.proofs.Common.{◌≤◌, length, arith}
 use Rattle.covering.proofs.Putting.{kept}
-use Rattle.reading.proofs.CopyCases.{to_old_room, to_old_own}
-use Rattle.forms.proofs.Outcome.{copies_none, own_refusal, own_told, is_sound, old_own, old_ready, old_copied}
-use Rattle.forms.proofs.Outcome.{none_found, old_refused}
+use Rattle.reading.specs.Copy.{to_old}
+use Rattle.judging.proofs.JudgingSteps.{found_none}
+use Rattle.forms.proofs.Outcome.{copies_refused, first_refused, is_room, is_sound, old_own, old_ready, old_copied, old_refused}
 use Rattle.forms.proofs.copying.to_old.Goals as goal
 
-pub returns-then-out-lt-BOOK : goal.returns-then-out-lt-BOOK
-returns-then-out-lt-BOOK c =
-    let a = c.args in
-    let few : length a.out.now < 2003 = omega (arith, c.if-out-lt-BOOK.true) in
-    copies_none a.out.now (to_old_room a.book.now _ few)
+pub returns-in_err-ready : goal.returns-in_err-ready
+unfolding to_old
+returns-in_err-ready c =
+    copies_refused _ _ _ c.from_residual.ensures.1 (first_refused c.args.book.now _ _ _ c.in_err-ready.ensures)
 
-pub returns-then-r-ne0 : goal.returns-then-r-ne0
-returns-then-r-ne0 c =
-    let a = c.args in
-    let is = c.check-r.ensures in
-    let enough : 2003 ≤ length a.out.now = omega (arith, c.if-out-lt-BOOK.false) in
-    copies_none a.out.now
-    (to_old_own a.book.now _ enough (own_refusal a.book.now is c.if-r-ne0.true) ∙ own_told a.book.now is)
+pub no_old_form-requires : goal.no_old_form-requires
+no_old_form-requires c = is_sound c.args.book.now _ c.in_ok-ready.ensures
 
-pub no_old_form-o-requires : goal.no_old_form-o-requires
-no_old_form-o-requires c = is_sound _ c.check-r.ensures c.if-r-ne0.false
-
-pub returns-then-o-ne0 : goal.returns-then-o-ne0
-returns-then-o-ne0 c =
-    let a = c.args in
-    let enough : 2003 ≤ length a.out.now = omega
-    (arith, c.if-out-lt-BOOK.false) in
-    let s = is_sound a.book.now c.check-r.ensures
-    c.if-r-ne0.false in
-    copies_none a.out.now (old_refused a.book.now c.no_old_form-o.ensures _ enough s
-    c.if-o-ne0.true)
+pub returns-in_err-no_old_form : goal.returns-in_err-no_old_form
+returns-in_err-no_old_form c =
+    let B = c.args.book.now in
+    let h = c.in_ok-ready.ensures in
+    copies_refused _ _ _ c.from_residual-in_err-no_old_form.ensures.1
+    (old_refused B (is_sound B _ h) _ (is_room B _ h) _ c.in_err-no_old_form.ensures)
 
 pub put_book-requires : goal.put_book-requires
 put_book-requires c =
-    let found = none_found
-    c.args.book.now
-    c.no_old_form-o.ensures c.if-o-ne0.false in (
-      old_ready _ c.check-r.ensures
-          c.if-r-ne0.false found,
-      old_own,
-      omega
-          (arith, c.if-out-lt-BOOK.false),
-    )
+    let B = c.args.book.now in
+    let h = c.in_ok-ready.ensures in
+    (old_ready B (is_sound B _ h) (found_none 13 _ (omega arith) c.in_ok-no_old_form.ensures), old_own, is_room B _ h)
 
 pub shape_of-out : goal.shape_of-out
 shape_of-out c = kept c.put_book.ensures
 
 pub returns : goal.returns
 returns c =
-    let a = c.args in
-    let enough : 2003 ≤ length a.out.now = omega
-    (arith, c.if-out-lt-BOOK.false) in
-    let found = none_found a.book.now c.no_old_form-o.ensures
-    c.if-o-ne0.false in
-    old_copied a.book.now
-    c.check-r.ensures
-    c.if-r-ne0.false enough found
+    let B = c.args.book.now in
+    let h = c.in_ok-ready.ensures in
+    old_copied B (is_sound B _ h) (is_room B _ h) (found_none 13 _ (omega arith) c.in_ok-no_old_form.ensures)
     c.put_book.ensures

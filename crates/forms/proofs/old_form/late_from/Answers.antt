@@ -1,40 +1,22 @@
 -- The places passed have no variable above 31, so the first is the first among those left. Assumes nothing.
-use borrow.Author.Rules.{rules}
-use native.Mathlib.Omega.{arith}
-use borrow.Author.Tests.{not-true, not-false}
-use mathlib.Core.Path.{◌≡◌, sym, ◌∙◌, ap, ap₂}
-use Prim.Native.Nat.{ℕ, ◌+◌, ◌-◌}
+use Rattle.std.proofs.Common.{◌≡◌, ◌+◌, ℕ, sym, ◌∙◌, ap, arith}
 use Rattle.reading.specs.Verdict.{told}
 use Rattle.reading.specs.Copy.{term_old, late_from}
 use Rattle.forms.proofs.LateSteps.{late_end, late_found, late_next}
 use Rattle.forms.proofs.old_form.late_from.Goals as goal
 
-pub loop-k-init : goal.loop-k-init
-loop-k-init c =
-    let a = c.args in
-    let at : a.i ≡ a.i + 0 = omega arith in
-    let left : a.n ≡ a.n - 0 = omega arith in
-    (search rules, ap₂ (late_from a.book.now) at left)
+pub loop-at-init : goal.loop-at-init
+loop-at-init c = ap (late_from c.args.book.now c.args.i) (omega arith)
 
 pub returns-then-not-is_old : goal.returns-then-not-is_old
 returns-then-not-is_old c =
-    let l = c.loop-k in
-    let e = ap term_old (sym c.wide.ensures.0) ∙ sym c.is_old.ensures ∙ not-true _
-    c.if-not-is_old.true-raw in
-    ap (told 13) (sym (l.invariant.1 ∙ late_found _ _ _ _ c.loop-k-test.true e))
+    let e = ap term_old (sym c.from.ensures) ∙ sym c.is_old.ensures ∙ c.if-not-is_old.true in
+    ap (told 13) (sym (c.loop-at.invariant ∙ late_found _ _ _ _ c.loop-at-test.true e))
 
-pub loop-k-preserved : goal.loop-k-preserved
-loop-k-preserved c =
-    let l = c.loop-k in
-    let a = c.args in
-    let e = ap term_old (sym c.wide.ensures.0) ∙ sym c.is_old.ensures ∙ not-false _
-    c.if-not-is_old.false-raw in
-    let d : a.i + l.k + 1 ≡ a.i + (l.k + 1) = omega arith in (
-      search rules,
-      l.invariant.1
-          ∙ late_next _ _ _ _ c.loop-k-test.true e
-          ∙ ap (λ (i : ℕ). late_from a.book.now i (a.n - (l.k + 1))) d,
-    )
+pub loop-at-preserved : goal.loop-at-preserved
+loop-at-preserved c =
+    let e = ap term_old (sym c.from.ensures) ∙ sym c.is_old.ensures ∙ c.if-not-is_old.false in
+    c.loop-at.invariant ∙ late_next _ _ _ _ c.loop-at-test.true e
 
 pub returns : goal.returns
-returns c = ap (told 13) (sym (c.loop-k.invariant.1 ∙ late_end _ _ _ _ c.loop-k-test.false))
+returns c = ap (told 13) (sym (c.loop-at.invariant ∙ late_end _ _ _ _ c.loop-at-test.false))

@@ -1,165 +1,109 @@
 -- The rules passed have no variable above 31, so the first is the first in those left. Assumes nothing.
-use borrow.Author.Rules.{rules as steps}
-use native.Mathlib.Omega.{arith}
-use mathlib.Core.Path.{◌≡◌, sym, ◌∙◌, ap, ap₂}
-use mathlib.Core.List.{List}
-use Prim.Native.Nat.{ℕ, ◌+◌, ◌*◌, ◌-◌, ◌≤◌, ◌<◌}
-use lib.ListN.{length}
-use Rattle.reading.specs.Header.{rules, atom_places}
-use Rattle.reading.specs.Book.{body_count, head_count, body_at, rule_end, rules_start}
-use Rattle.reading.specs.Verdict.{told}
+use Rattle.std.proofs.Common.{◌≡◌, ◌+◌, ◌*◌, ◌-◌, ◌<◌, ◌≤◌, ℕ, List, length, sym, ◌∙◌, ap, ap₂, arith}
+use Rattle.reading.specs.declared.Header.{Header}
+use Rattle.reading.specs.Word.{byte}
+use Rattle.reading.specs.Header.{header_of, rules}
+use Rattle.reading.specs.Book.{body_count, head_count, rule_end, rules_start, rule_start}
+use Rattle.reading.specs.Verdict.{told, SoundBook}
 use Rattle.reading.specs.Copy.{late_in_atoms, late_in_rules}
 use Rattle.reading.proofs.After.{after_zero, after_next}
 use Rattle.reading.proofs.Forms.{form_known}
-use Rattle.judging.proofs.JudgingSteps.{same_number, else_found, else_next}
+use Rattle.judging.proofs.JudgingSteps.{handed, stops_else, passes_else}
 use Rattle.forms.proofs.Headed.{headed}
 use Rattle.forms.proofs.LateSteps.{rules_end, rules_more, rule_within}
-use Rattle.forms.proofs.old_form.late_in_rules.Lts as lts
-use Rattle.forms.proofs.old_form.late_in_rules.Reads as reads
-use Rattle.forms.proofs.old_form.late_in_rules.Tie as tie
 use Rattle.forms.proofs.old_form.late_in_rules.Goals as goal
 
-abbrev Start : Type 0
-Start = lts.Start tie.the-claims reads.Pre reads.Post goal.the-invariant-loop-k goal.the-decreases-loop-k
+-- the rule of a turn, at s, by the counts x and y that were read
+module _ (B : List ℕ) (sound : SoundBook B) {h : Header} (is : h ≡ header_of B) (k : ℕ) {s : ℕ} (l : k < h.rules)
+    (at : s ≡ rule_start B k) where
+  within : rule_end B s ≤ length B
+  within = rule_within B sound (omega (arith, (headed B sound is).rules_are)) at
 
-abbrev In-loop : Type 0
-In-loop = lts.In-loop tie.the-claims reads.Pre reads.Post goal.the-invariant-loop-k goal.the-decreases-loop-k
+  module _ {x y : ℕ} (is_x : x ≡ byte B s) (is_y : y ≡ byte B (s + 1)) where
+    counted : x + y ≡ body_count B s + head_count B s
+    counted = omega arith
 
-abbrev After-wide2 : Type 0
-After-wide2 = lts.After-wide2 tie.the-claims reads.Pre reads.Post goal.the-invariant-loop-k goal.the-decreases-loop-k
+    atoms : told 13 (late_in_atoms B (s + 2) (x + y)) ≡ told 13 (late_in_atoms B (s + 2) (body_count B s + head_count B s))
+    atoms = ap (λ (m : ℕ). told 13 (late_in_atoms B (s + 2) m)) counted
 
-abbrev After-late_in_atoms : Type 0
-After-late_in_atoms = lts.After-late_in_atoms tie.the-claims reads.Pre reads.Post goal.the-invariant-loop-k goal.the-decreases-loop-k
+    -- where it ends, as the code finds it, which is where the next one starts
+    ends : s + 2 + (1 + h.places) * (x + y) ≡ rule_end B s
+    ends = ap₂ (λ (w m : ℕ). s + 2 + (1 + w) * m) (headed B sound is).places_are counted
 
--- the header's numbers
-count : (c : Start) → c.args.h.rules ≡ rules c.args.book.now
-count c = (headed _ c.requires.0 c.requires.1).rules_are
+    next : s + (2 + (1 + h.places) * (x + y)) ≡ rule_end B s
+    next = omega (arith, ends)
 
-places : (c : Start) → c.args.h.places ≡ atom_places c.args.book.now
-places c = (headed _ c.requires.0 c.requires.1).places_are
+    starts : s + (2 + (1 + h.places) * (x + y)) ≡ rule_start B (k + 1)
+    starts = next ∙ ap (rule_end B) at ∙ sym (after_next B (rules_start B) k)
 
--- the rule of this turn ends within the book
-within : (c : In-loop) → rule_end c.args.book.now c.loop-k.s
-    ≤ length c.args.book.now
-within c =
-    let l : c.loop-k.k < rules c.args.book.now = omega
-    (arith, c.loop-k-test.true, count c.before.before.before) in
-    rule_within c.args.book.now c.requires.0 l
-    c.loop-k.invariant.1
+pub bounds-book-s : goal.bounds-book-s
+bounds-book-s c = omega (arith, within _ c.requires.0 c.requires.1 _ c.loop-k-test.true c.loop-k.invariant.0)
 
--- the book, and where the turn is in it
-abbrev book_in : After-wide2 → List ℕ
-book_in c = c.args.book.now
+pub overflow_add-s : goal.overflow_add-s
+overflow_add-s c = omega (arith, within _ c.requires.0 c.requires.1 _ c.loop-k-test.true c.loop-k.invariant.0)
 
-abbrev at_rule : After-wide2 → ℕ
-at_rule c = c.loop-k.s
+pub bounds-book-s-in-loop-k : goal.bounds-book-s-in-loop-k
+bounds-book-s-in-loop-k c = omega (arith, within _ c.requires.0 c.requires.1 _ c.loop-k-test.true c.loop-k.invariant.0)
 
--- how many atoms the rule has, and where it ends, as the code finds it
-counted : (c : After-wide2)
-    → c.wide.result + c.wide-in-loop-k.result ≡ body_count (book_in c) (at_rule c) + head_count (book_in c)
-    (at_rule c)
-counted c = omega (arith, c.wide.ensures.0, c.wide-in-loop-k.ensures.0)
-
-ends : (c : After-wide2)
-    → at_rule c + 2 + (1 + c.args.h.places) *
-    (c.wide.result + c.wide-in-loop-k.result)
-    ≡ rule_end (book_in c) (at_rule c)
-ends c = ap₂ (λ (w m : ℕ). at_rule c + 2 + (1 + w) * m) (places c.before.before.before.before.before.before.before) (counted c)
-
--- what was found in it
-found : (c : After-late_in_atoms)
-    → c.late_in_atoms-r.result
-    ≡ told 13
-    (late_in_atoms (book_in c.before) (body_at (book_in c.before) (at_rule c.before))
-    (body_count (book_in c.before) (at_rule c.before) + head_count (book_in c.before) (at_rule c.before)))
-found c =
-    c.late_in_atoms-r.ensures
-    ∙ ap (λ (m : ℕ). told 13 (late_in_atoms (book_in c.before) (at_rule c.before + 2) m)) (counted c.before)
+pub overflow_add-s-in-loop-k : goal.overflow_add-s-in-loop-k
+overflow_add-s-in-loop-k c = omega (arith, within _ c.requires.0 c.requires.1 _ c.loop-k-test.true c.loop-k.invariant.0)
 
 pub loop-k-init : goal.loop-k-init
 loop-k-init c =
     let B = c.args.book.now in
-    let start = (headed B c.requires.0 c.requires.1).start_is in
-    let all : rules B ≡ c.args.h.rules - 0 = omega (arith, count c.before.before) in
-    (search steps, start ∙ sym (after_zero B (rules_start B)), ap₂ (late_in_rules B) (sym start) all)
+    let k = headed B c.requires.0 c.requires.1 in
+    let all : rules B ≡ c.args.h.rules - 0 = omega (arith, k.rules_are) in
+    (k.start_is ∙ sym (after_zero B (rules_start B)), ap₂ (late_in_rules B) (sym k.start_is) all)
 
-pub bounds-book-s : goal.bounds-book-s
-bounds-book-s c = omega (arith, within c.before.before)
+pub late_in_atoms-requires : goal.late_in_atoms-requires
+late_in_atoms-requires c =
+    let B = c.args.book.now in
+    let w = within B c.requires.0 c.requires.1 _ c.loop-k-test.true c.loop-k.invariant.0 in
+    let e = ends B c.requires.0 c.requires.1 _ c.loop-k-test.true c.loop-k.invariant.0 c.from.ensures c.from-in-loop-k.ensures in
+    ((headed B c.requires.0 c.requires.1).places_are, omega (arith, w, e))
 
-pub overflow_add-s : goal.overflow_add-s
-overflow_add-s c = omega (arith, within c.before.before.before)
-
-pub bounds-book-s-in-loop-k : goal.bounds-book-s-in-loop-k
-bounds-book-s-in-loop-k c = omega (arith, within c.before.before.before.before)
-
-pub overflow_add-s-in-loop-k : goal.overflow_add-s-in-loop-k
-overflow_add-s-in-loop-k c = omega (arith, within c.before.before.before.before.before)
-
-pub late_in_atoms-r-requires : goal.late_in_atoms-r-requires
-late_in_atoms-r-requires c = (
-  places c.before.before.before.before.before.before.before.before,
-  omega (
-    arith,
-    within c.before.before.before.before.before,
-    ends c.before,
-  ),
-)
-
-pub returns-then-r-ne0 : goal.returns-then-r-ne0
-returns-then-r-ne0 c =
-    let a = c.args in
-    let B = a.book.now in
-    let l = c.loop-k in
-    let e = found c.before.before.before in
-    e
-    ∙ sym
-    (ap (told 13) (l.invariant.2 ∙ rules_more _ _ _ _
-    c.loop-k-test.true)
-    ∙ else_found 13 (late_in_atoms B (body_at B l.s) (body_count B l.s + head_count B l.s))
-    (late_in_rules B (rule_end B l.s) (a.h.rules - (l.k + 1)))
-    (λ h. c.if-r-ne0.true (same_number e ∙ h)))
-
-pub overflow_add-s-in-loop-k-2 : goal.overflow_add-s-in-loop-k-2
-overflow_add-s-in-loop-k-2 c = omega (arith, within c.before.before.before.before.before.before.before.before)
-
-pub overflow_add-s-in-loop-k-3 : goal.overflow_add-s-in-loop-k-3
-overflow_add-s-in-loop-k-3 c =
-    omega (
-      arith,
-      places c.before.before.before.before.before.before.before.before.before.before.before,
-      (form_known
-          c.args.book.now).few_places,
-    )
+pub returns-in_err-late_in_atoms : goal.returns-in_err-late_in_atoms
+returns-in_err-late_in_atoms c =
+    let d = atoms _ c.requires.0 c.requires.1 _ c.loop-k-test.true c.loop-k.invariant.0 c.from.ensures c.from-in-loop-k.ensures in
+    handed _ _ c.from_residual.ensures.1 (stops_else 13 _ _ _ (c.in_err-late_in_atoms.ensures ∙ d))
+    ∙ ap (told 13) (sym (c.loop-k.invariant.1 ∙ rules_more _ _ _ _ c.loop-k-test.true))
 
 pub overflow_mul-s : goal.overflow_mul-s
 overflow_mul-s c =
-    omega (
-      arith,
-      within c.before.before.before.before.before.before.before.before,
-      ends c.before.before.before.before,
-    )
+    let B = c.args.book.now in
+    let w = within B c.requires.0 c.requires.1 _ c.loop-k-test.true c.loop-k.invariant.0 in
+    let e = ends B c.requires.0 c.requires.1 _ c.loop-k-test.true c.loop-k.invariant.0 c.from.ensures c.from-in-loop-k.ensures in
+    omega (arith, w, e)
+
+pub overflow_add-s-in-loop-k-3 : goal.overflow_add-s-in-loop-k-3
+overflow_add-s-in-loop-k-3 c =
+    let B = c.args.book.now in
+    let w = within B c.requires.0 c.requires.1 _ c.loop-k-test.true c.loop-k.invariant.0 in
+    let e = ends B c.requires.0 c.requires.1 _ c.loop-k-test.true c.loop-k.invariant.0 c.from.ensures c.from-in-loop-k.ensures in
+    omega (arith, w, e)
 
 pub overflow_add-s-in-loop-k-4 : goal.overflow_add-s-in-loop-k-4
 overflow_add-s-in-loop-k-4 c =
-    omega (
-      arith,
-      within c.before.before.before.before.before.before.before.before,
-      ends c.before.before.before.before,
-    )
+    let B = c.args.book.now in
+    let w = within B c.requires.0 c.requires.1 _ c.loop-k-test.true c.loop-k.invariant.0 in
+    let e = ends B c.requires.0 c.requires.1 _ c.loop-k-test.true c.loop-k.invariant.0 c.from.ensures c.from-in-loop-k.ensures in
+    omega (arith, w, e)
+
+pub overflow_add-s-in-loop-k-2 : goal.overflow_add-s-in-loop-k-2
+overflow_add-s-in-loop-k-2 c =
+    omega (arith, (headed _ c.requires.0 c.requires.1).places_are, (form_known c.args.book.now).few_places)
 
 pub loop-k-preserved : goal.loop-k-preserved
 loop-k-preserved c =
-    let a = c.args in
-    let B = a.book.now in
-    let l = c.loop-k in (
-      search steps,
-      ends c.before.before.before.before ∙ ap (rule_end B) l.invariant.1 ∙ sym (after_next B (rules_start B) l.k),
-      l.invariant.2
+    let B = c.args.book.now in
+    let d = atoms B c.requires.0 c.requires.1 _ c.loop-k-test.true c.loop-k.invariant.0 c.from.ensures c.from-in-loop-k.ensures in
+    let on = next B c.requires.0 c.requires.1 _ c.loop-k-test.true c.loop-k.invariant.0 c.from.ensures c.from-in-loop-k.ensures in (
+      starts B c.requires.0 c.requires.1 _ c.loop-k-test.true c.loop-k.invariant.0 c.from.ensures c.from-in-loop-k.ensures,
+      c.loop-k.invariant.1
           ∙ rules_more _ _ _ _ c.loop-k-test.true
-          ∙ else_next 13 (late_in_atoms B (body_at B l.s) (body_count B l.s + head_count B l.s)) _ (omega arith)
-          (same_number (sym (found c.before.before.before)) ∙ c.if-r-ne0.false)
-          ∙ ap (λ (i : ℕ). late_in_rules B i (a.h.rules - (l.k + 1))) (sym (ends c.before.before.before.before)),
+          ∙ passes_else 13 _ _ (omega arith) (c.in_ok-late_in_atoms.ensures ∙ d)
+          ∙ ap (λ (s : ℕ). late_in_rules B s (c.args.h.rules - (c.loop-k.k + 1))) (sym on),
     )
 
 pub returns : goal.returns
-returns c = ap (told 13) (sym (c.loop-k.invariant.2 ∙ rules_end _ _ _ _ c.loop-k-test.false))
+returns c = ap (told 13) (sym (c.loop-k.invariant.1 ∙ rules_end _ _ _ _ c.loop-k-test.false))

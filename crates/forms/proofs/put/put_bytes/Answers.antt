@@ -1,5 +1,4 @@
--- `forms::put::put_bytes` meets its contract. The loop's invariant: the bytes passed are put. The measure is the number
--- of those left.
+-- `forms::put::put_bytes` meets its contract. The loop's invariant: the bytes passed are put.
 use native.Mathlib.Omega.{arith}
 use mathlib.Core.Path.{◌≡◌, subst}
 use mathlib.Core.List.{[], ◌∷◌, ◌++◌}
@@ -13,36 +12,32 @@ use Rattle.forms.proofs.put.put_bytes.Goals as goal
 pub loop-k-init : goal.loop-k-init
 loop-k-init c =
     let a = c.args in
-    let here : a.at ≡ a.at + 0 = omega arith in (
-      omega arith,
+    let here : a.at ≡ a.at + 0 = omega arith in
       subst (λ (e : ℕ). Puts (take 0 (drop a.i a.from.now)) a.out.now a.at e
-          a.out.now) here (put_none (omega (arith, c.requires.1))),
-    )
+          a.out.now) here (put_none (omega (arith, c.requires.1)))
 
 pub bounds-out-at : goal.bounds-out-at
-bounds-out-at c = omega (arith, c.requires.1, kept c.loop-k.invariant.1)
+bounds-out-at c = omega (arith, c.requires.1, kept c.loop-k.invariant)
 
 pub loop-k-preserved : goal.loop-k-preserved
 loop-k-preserved c =
     let l = c.loop-k in
     let a = c.args in
     let k = l.k in
-    let room : a.at + k + 1 ≤ length l.out = omega (arith, c.requires.1, kept l.invariant.1) in
-    let next : a.at + k + 1 ≡ a.at + (k + 1) = omega arith in (
-      omega arith,
+    let room : a.at + k + 1 ≤ length l.out = omega (arith, c.requires.1, kept l.invariant) in
+    let next : a.at + k + 1 ≡ a.at + (k + 1) = omega arith in
       put_as (byte_more a.from.now a.i k (omega (arith, c.requires.0)))
           (subst (λ (e : ℕ). Puts (take k (drop a.i a.from.now) ++ get_or a.from.now (a.i + k) 0 ∷ [])
           a.out.now a.at e (set l.out (a.at + k) (get_or a.from.now (a.i + k) 0))) next
-          (then l.invariant.1 (put_one l.out (a.at + k) (get_or a.from.now (a.i + k) 0) room))),
-    )
+          (then l.invariant (put_one l.out (a.at + k) (get_or a.from.now (a.i + k) 0) room)))
 
 pub shape_of-out : goal.shape_of-out
-shape_of-out c = kept c.loop-k.invariant.1
+shape_of-out c = kept c.loop-k.invariant
 
 pub returns : goal.returns
 returns c =
     let l = c.loop-k in
     let a = c.args in
-    let all : l.k ≡ a.n = omega (arith, l.invariant.0) in
+    let all : l.k ≡ a.n = omega arith in
     subst (λ (k : ℕ). Puts (take k (drop a.i a.from.now)) a.out.now a.at (a.at + k) l.out) all
-    l.invariant.1
+    l.invariant

@@ -1,15 +1,9 @@
--- `forms::put::put_words` meets its contract. The loop's invariant: the words passed are put, two bytes each. The
--- measure is the number of those left.
-use mathlib.Core.Path.{◌≡◌}
-use Prim.Native.Nat.{◌*◌, ◌-◌, ◌≤◌}
-use lib.ListN.{take}
+-- `forms::put::put_words` meets its contract. The loop's invariant: the words passed are put, two bytes each.
+use Rattle.std.proofs.Common.{◌≡◌, ◌*◌, take}
 use Rattle.covering.specs.Lists.{gather}
 use Rattle.covering.specs.Put.{Puts}
 use Rattle.reading.specs.Word.{word_bytes}
 use Rattle.forms.proofs.put.put_words.Given as goal
 
 abbrev pub invariant-loop-k : goal.invariant-loop-k
-invariant-loop-k l = (l.k ≤ l.n) × (l.at ≡ 2 * l.k) × Puts (gather word_bytes (take l.k l.words)) l.initial.out 0 l.at l.out
-
-abbrev pub decreases-loop-k : goal.decreases-loop-k
-decreases-loop-k l = l.n - l.k
+invariant-loop-k l = (l.at ≡ 2 * l.k) × Puts (gather word_bytes (take l.k l.words)) l.initial.out 0 l.at l.out

@@ -1,10 +1,5 @@
 -- The counts fit and are 1 to 4, and the end is no later than it may be: the parts of `rule_right`. Assumes nothing.
-use native.Mathlib.Omega.{arith}
-use mathlib.Core.Path.{◌≡◌, sym, ◌∙◌}
-use mathlib.Core.Bool.{Bool, true, false, cond, ◌&&◌}
-use mathlib.Core.List.{List}
-use Prim.Native.Nat.{ℕ, ◌+◌, ◌*◌}
-use lib.Dec.{leb}
+use Rattle.std.proofs.Common.{◌≡◌, ◌+◌, ◌*◌, ◌&&◌, ℕ, Bool, true, false, cond, List, Some, None, sym, ◌∙◌, arith, leb}
 use Rattle.reading.specs.Word.{byte}
 use Rattle.reading.specs.Header.{atom_places, inside, body_range, head_range}
 use Rattle.reading.specs.Book.{rule_end}
@@ -21,10 +16,10 @@ module _ (B : List ℕ) (e s : ℕ) {b h w z : ℕ} {x y : Bool} (is_b : b ≡ b
   unfolding rule_right
   tested = cc
 
-  right : x && (y && leb (s + 2 + z) e) ≡ true → s + 2 + z ≡ cond (rule_right B e s) (rule_end B s) 0
+  right : x && (y && leb (s + 2 + z) e) ≡ true → Some (s + 2 + z) ≡ cond (rule_right B e s) (Some (rule_end B s)) None
   right t = rw (sym tested ∙ t) (cc)
 
-  wrong : x && (y && leb (s + 2 + z) e) ≡ false → 0 ≡ cond (rule_right B e s) (rule_end B s) 0
+  wrong : x && (y && leb (s + 2 + z) e) ≡ false → None ≡ cond (rule_right B e s) (Some (rule_end B s)) None
   wrong t = rw (sym tested ∙ t)
 
 pub returns-then-end-s-lt2 : goal.returns-then-end-s-lt2
@@ -33,17 +28,12 @@ returns-then-end-s-lt2 c = rw (rule_short c.args.book.now c.args.end c.args.s (o
 pub atoms_size-requires : goal.atoms_size-requires
 atoms_size-requires c = (omega (arith, c.requires.2, (form_known c.args.book.now).few_places), omega arith)
 
-pub overflow_add-e-2 : goal.overflow_add-e-2
-overflow_add-e-2 c = omega (arith, c.atoms_size.ensures.1)
-
 pub returns-then-within-e : goal.returns-then-within-e
 returns-then-within-e c =
-    right c.args.book.now c.args.end c.args.s c.wide-b.ensures.0
-    c.wide-h.ensures.0 c.requires.2 c.atoms_size.ensures.0 c.within.ensures
-    c.within-2.ensures c.if-within-e.true
+    right c.args.book.now c.args.end c.args.s c.from-b.ensures c.from-h.ensures c.requires.2
+    c.atoms_size.ensures.0 c.within.ensures c.within-2.ensures c.if-within-e.true
 
 pub returns : goal.returns
 returns c =
-    wrong c.args.book.now c.args.end c.args.s c.wide-b.ensures.0
-    c.wide-h.ensures.0 c.requires.2 c.atoms_size.ensures.0 c.within.ensures
-    c.within-2.ensures c.if-within-e.false
+    wrong c.args.book.now c.args.end c.args.s c.from-b.ensures c.from-h.ensures c.requires.2
+    c.atoms_size.ensures.0 c.within.ensures c.within-2.ensures c.if-within-e.false
