@@ -16,13 +16,14 @@ use std::io::Write;
 // The verdict on a book.
 fn tell<W: Write>(out: &mut W, name: &[u8], book: &[u8]) -> io::Result<()> {
     out.write_all(name)?;
-    let r = book::check(book);
-    let number = r.number;
-    let place = r.place;
-    if number == 0 {
-        return out.write_all(b": sound\n");
+    match book::check(book) {
+        Ok(()) => out.write_all(b": sound\n"),
+        Err(refused) => {
+            let number = u8::from(refused.reason);
+            let place = refused.place;
+            write!(out, ": refused {number} at {place}\n")
+        }
     }
-    write!(out, ": refused {number} at {place}\n")
 }
 
 // Where the body and the head of the rule at s stand.
@@ -53,11 +54,10 @@ fn show_record<W: Write>(out: &mut W, r: &[u8; RECORD]) -> io::Result<()> {
 // What the readers give of a book, as it is in the new form, where it is sound.
 fn show<W: Write>(out: &mut W, book: &[u8]) -> io::Result<()> {
     let mut wide = [0u8; BOOK];
-    let copy = to_new(book, &mut wide);
-    if copy.number != 0 {
-        return Ok(());
+    match to_new(book, &mut wide) {
+        Ok(len) => show_new(out, &wide[..len]),
+        Err(_) => Ok(()),
     }
-    show_new(out, &wide[..copy.place])
 }
 
 // The same of a sound book in the new form.

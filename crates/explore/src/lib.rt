@@ -59,11 +59,3 @@ pub enum Ran {
     Complete(Extent, usize),
     Refused(u8, usize),
 }
-
-// "The answer is a number and a place. 0 means complete, and the place is the total length written. Every other number
-// means that no output byte changed."
-#[derive(Clone, Copy)]
-pub struct Answer {
-    pub number: u8,
-    pub place: usize,
-}

@@ -7,7 +7,9 @@ ghost use Rattle.covering.specs.Asking.{joined};
 ghost use Rattle.records.specs.Relations.{relations_of};
 ghost use Rattle.reading.specs.Header.{form_of, new};
 ghost use Rattle.reading.specs.Book.{book_of};
+ghost use Rattle.reading.specs.Told.{number_of, number_told, place_told};
 ghost use Rattle.reading.specs.Verdict.{SoundBook};
+ghost use Rattle.exploration.specs.Run.{Why, refusal_number};
 ghost use Rattle.exploration.specs.Union.{output_size};
 ghost use Rattle.exploration.specs.Answer.{outcome_of, Answers};
 ghost use Rattle.exploration.specs.Refusals.{answers_of};
@@ -16,10 +18,11 @@ ghost use Rattle.explore.specs.Exploring.{RanIs};
 use super::exploring::explore;
 use super::related::head_sets;
 use super::taking_up::oldest;
-use super::{Answer, Explored, OUTPUT, Ran};
+use super::{Explored, OUTPUT, Ran};
 use admit::{Extent, FIRST, ROOM, append};
 use covering::RECORD;
 use forms::{BOOK, to_new};
+use reading::{Reason, Refused};
 use writing::put_union;
 
 // The form of the book's question.
@@ -90,9 +93,21 @@ fn explore_all(book: &[u8], work: &mut [u8]) -> Ran
     Ran::Complete(filled, taken)
 }
 
+// The reason of a number that an exploration meets: it is refused 8 to 10.
+fn reason(number: u8) -> Reason
+    requires { (w : Why) × (number ≡ refusal_number w) }
+    ensures { number_of result ≡ number }
+{
+    match number {
+        8 => Reason::TooLong,
+        9 => Reason::NoRoom,
+        _ => Reason::NoneLeft,
+    }
+}
+
 // Builds a sound book's union in a working array of its own, from the book as it is in the new form, and writes it with
-// as many places an atom as the book has. The output is written on completion alone.
-fn run_sound(book: &[u8], wide: &[u8], out: &mut [u8]) -> Answer
+// as many places an atom as the book has. The output is written on completion alone; its length is the answer.
+fn run_sound(book: &[u8], wide: &[u8], out: &mut [u8]) -> Result<usize, Refused>
     requires { SoundBook book.now
         × SoundBook wide.now
         × (form_of wide.now ≡ new)
@@ -101,8 +116,8 @@ fn run_sound(book: &[u8], wide: &[u8], out: &mut [u8]) -> Answer
     ensures { Answers
         book.now
         out.old
-        result.number
-        result.place
+        (number_told result)
+        (place_told result)
         out.new }
 {
     let mut work = [0u8; OUTPUT];
@@ -112,41 +127,32 @@ fn run_sound(book: &[u8], wide: &[u8], out: &mut [u8]) -> Answer
             let places = book::read(book).places;
             let answers = answer_records(book);
             let end = put_union(&work, filled.count, explored, answers, out, places);
-            Answer {
-                number: 0,
-                place: end,
-            }
+            Ok(end)
         }
-        Ran::Refused(number, place) => Answer {
-            number: number,
+        Ran::Refused(number, place) => Err(Refused {
+            reason: reason(number),
             place: place,
-        },
+        }),
     }
 }
 
-// The union of a book's question, or why there is none: 1 to 7 and 11 of the output and of the book's bytes, 8 to
-// 10 as the exploration meets them.
-pub fn run(book: &[u8], out: &mut [u8]) -> Answer
+// The union of a book's question and its length, or why there is none: 1 to 7 and 11 of the output and of the book's
+// bytes, 8 to 10 as the exploration meets them.
+pub fn run(book: &[u8], out: &mut [u8]) -> Result<usize, Refused>
     ensures { Answers
         book.now
         out.old
-        result.number
-        result.place
+        (number_told result)
+        (place_told result)
         out.new }
 {
     if out.len() < OUTPUT {
-        return Answer {
-            number: 1,
+        return Err(Refused {
+            reason: Reason::ShortOutput,
             place: 0,
-        };
+        });
     }
     let mut wide = [0u8; BOOK];
-    let copy = to_new(book, &mut wide);
-    if copy.number != 0 {
-        return Answer {
-            number: copy.number,
-            place: copy.place,
-        };
-    }
-    run_sound(book, &wide[..copy.place], out)
+    let len = to_new(book, &mut wide)?;
+    run_sound(book, &wide[..len], out)
 }

@@ -1,9 +1,9 @@
 -- One step of each search for what has no old form, as the code goes: k of n are done, and n - k are left. Assumes
 -- nothing.
-use mathlib.Core.Path.{◌≡◌, refl, sym, ◌∙◌, ap, subst}
+use mathlib.Core.Path.{◌≡◌, refl, sym, subst}
 use mathlib.Core.Bool.{true, false}
 use mathlib.Core.List.{List}
-use mathlib.Core.Option.{Option, none, some}
+use mathlib.Core.Option.{none, some}
 use Prim.Native.Nat.{ℕ, ◌+◌, ◌-◌, ◌≤◌, ◌<◌}
 use native.Mathlib.Nat.{sub-eq-zero_of_le}
 use native.Mathlib.Omega.{arith}
@@ -15,7 +15,7 @@ use Rattle.reading.specs.Word.{byte}
 use Rattle.reading.specs.Header.{old, header_size, relations, rules, atoms, question_at, atom_places, atom_size}
 use Rattle.reading.specs.Header.{answer_records}
 use Rattle.reading.specs.Book.{body_count, head_count, body_at, rule_end, rule_start}
-use Rattle.reading.specs.Verdict.{told, SoundBook}
+use Rattle.reading.specs.Verdict.{SoundBook}
 use Rattle.reading.specs.Copy.{wide_places, term_old, late_from, late_in_atoms, late_in_rules, no_old_form}
 use Rattle.reading.proofs.SoundBook.{sound_header, sound_rule}
 use Rattle.forms.specs.Late.{in_rules}

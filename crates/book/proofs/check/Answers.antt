@@ -1,5 +1,5 @@
 -- Each test stands for its refusal, in the order of the numbers. Assumes nothing.
-use Rattle.std.proofs.Common.{◌≡◌, ◌≤◌, ℕ, List, Bool, true, false, length, ltb, sym, ◌∙◌, ap}
+use Rattle.std.proofs.Common.{◌≡◌, ◌≤◌, ℕ, List, Bool, false, length, ltb, sym, ◌∙◌, ap}
 use borrow.Author.Tests.{ltb-true, ltb-false}
 use Rattle.covering.proofs.Tests.{true→T}
 use Rattle.reading.specs.declared.Header.{Header}

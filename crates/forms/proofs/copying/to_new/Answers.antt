@@ -1,5 +1,4 @@
 -- `forms::copying::to_new` meets its contract: too little room, then the book's own, then the copy.
-use Rattle.std.proofs.Common.{◌≤◌, length, arith}
 use Rattle.covering.proofs.Putting.{kept}
 use Rattle.reading.specs.Copy.{to_new}
 use Rattle.forms.proofs.Outcome.{copies_refused, first_refused, is_room, is_sound, new_own, new_ready, new_copied}

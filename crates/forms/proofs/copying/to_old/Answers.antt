@@ -1,6 +1,6 @@
 -- `forms::copying::to_old` meets its contract: too little room, then the book's own, then what has no old form, then
 -- the copy.
-use Rattle.std.proofs.Common.{◌≤◌, length, arith}
+use Rattle.std.proofs.Common.{arith}
 use Rattle.covering.proofs.Putting.{kept}
 use Rattle.reading.specs.Copy.{to_old}
 use Rattle.judging.proofs.JudgingSteps.{found_none}

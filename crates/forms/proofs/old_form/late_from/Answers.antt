@@ -1,5 +1,5 @@
 -- The places passed have no variable above 31, so the first is the first among those left. Assumes nothing.
-use Rattle.std.proofs.Common.{◌≡◌, ◌+◌, ℕ, sym, ◌∙◌, ap, arith}
+use Rattle.std.proofs.Common.{sym, ◌∙◌, ap, arith}
 use Rattle.reading.specs.Verdict.{told}
 use Rattle.reading.specs.Copy.{term_old, late_from}
 use Rattle.forms.proofs.LateSteps.{late_end, late_found, late_next}

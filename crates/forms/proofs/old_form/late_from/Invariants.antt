@@ -1,5 +1,5 @@
 -- The places passed have no variable above 31, so the first is the first among those left. Assumes nothing.
-use Rattle.std.proofs.Common.{◌≡◌, ◌+◌, ◌-◌}
+use Rattle.std.proofs.Common.{◌≡◌, ◌-◌}
 use Rattle.reading.specs.Copy.{late_from}
 use Rattle.forms.proofs.old_form.late_from.Given as goal
 

@@ -1,10 +1,10 @@
 -- The atoms passed have no variable above 31, so the first is the first in those left. Assumes nothing.
-use Rattle.std.proofs.Common.{◌≡◌, ◌+◌, ◌*◌, ◌-◌, ◌<◌, ◌≤◌, ℕ, List, length, sym, ◌∙◌, ap, arith}
+use Rattle.std.proofs.Common.{◌≡◌, ◌+◌, ◌*◌, ◌-◌, ◌<◌, ℕ, List, sym, ◌∙◌, ap, arith}
 use Rattle.covering.specs.Lists.{or_else}
 use Rattle.reading.specs.Header.{atom_places, atom_size}
 use Rattle.reading.specs.Verdict.{told}
 use Rattle.reading.specs.Copy.{late_from, late_in_atoms}
-use Rattle.judging.proofs.JudgingSteps.{bytes_within, handed, stops_else, passes_else}
+use Rattle.judging.proofs.JudgingSteps.{handed, stops_else, passes_else}
 use Rattle.forms.proofs.LateSteps.{atoms_end, atoms_more}
 use Rattle.forms.proofs.old_form.late_in_atoms.Goals as goal
 

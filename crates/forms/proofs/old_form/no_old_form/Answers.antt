@@ -1,5 +1,5 @@
 -- Relations first, then the rules, then the question with its answer record. Assumes nothing.
-use Rattle.std.proofs.Common.{◌≡◌, ◌+◌, ◌*◌, ◌≤◌, ℕ, List, length, cond, eqb, sym, ◌∙◌, ap, ap₂, arith}
+use Rattle.std.proofs.Common.{◌≡◌, ◌+◌, ◌*◌, ℕ, List, cond, eqb, sym, ◌∙◌, ap, ap₂, arith}
 use Rattle.reading.specs.declared.Header.{Header}
 use Rattle.reading.specs.Header.{HeaderRead, end_with, answer_records, atoms, atom_places, relations, header_size}
 use Rattle.reading.specs.Verdict.{told, form_in, SoundBook}

@@ -1,5 +1,5 @@
 -- The relations passed have four places at most, so the first wide one is the first among those left. Assumes nothing.
-use Rattle.std.proofs.Common.{◌≡◌, ◌+◌, ℕ, sym, ◌∙◌, ap, arith}
+use Rattle.std.proofs.Common.{sym, ◌∙◌, ap, arith}
 use Rattle.reading.specs.Verdict.{told}
 use Rattle.reading.specs.Copy.{wide_places}
 use Rattle.forms.proofs.LateSteps.{wide_end, wide_found, wide_next}

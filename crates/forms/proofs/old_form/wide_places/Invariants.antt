@@ -1,5 +1,5 @@
 -- The relations passed have four places at most, so the first wide one is the first among those left. Assumes nothing.
-use Rattle.std.proofs.Common.{◌≡◌, ◌+◌, ◌-◌}
+use Rattle.std.proofs.Common.{◌≡◌, ◌-◌}
 use Rattle.reading.specs.Copy.{wide_places}
 use Rattle.forms.proofs.old_form.wide_places.Given as goal
 

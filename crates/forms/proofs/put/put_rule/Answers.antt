@@ -2,7 +2,7 @@
 use Rattle.std.proofs.Common.{◌+◌, ◌*◌, ◌≤◌, ℕ, List, length, arith}
 use lib.ListN.{length-set}
 use Rattle.covering.proofs.Putting.{put_as, then, kept}
-use Rattle.reading.specs.Header.{BookForm, form_for}
+use Rattle.reading.specs.Header.{BookForm}
 use Rattle.reading.specs.Book.{body_count, head_count, rule_at}
 use Rattle.reading.specs.Written.{rule_bytes}
 use Rattle.reading.proofs.Forms.{form_known}

@@ -1,8 +1,8 @@
 -- `forms::put::put_rules` meets its contract. The loop's invariant: the rules passed are put.
-use Rattle.std.proofs.Common.{◌≡◌, ◌+◌, ◌*◌, ◌≤◌, ◌<◌, ℕ, List, length, ◌∙◌, ap₂, arith}
+use Rattle.std.proofs.Common.{◌≡◌, ◌+◌, ◌*◌, ◌<◌, ℕ, List, ◌∙◌, ap₂, arith}
 use Rattle.reading.specs.declared.Header.{Header}
 use Rattle.reading.specs.Word.{byte}
-use Rattle.reading.specs.Header.{BookForm, form_for, header_of, rules}
+use Rattle.reading.specs.Header.{BookForm, header_of, rules}
 use Rattle.reading.specs.Book.{rule_end}
 use Rattle.reading.proofs.Forms.{form_known}
 use Rattle.forms.specs.Ready.{BookReady}

@@ -13,23 +13,23 @@ use Rattle.judging.proofs.headed.Headed.wrong_in_rules.Goals as goal
 
 -- the rule of a turn, at s, by the counts x and y that were read
 module _ {B : List ℕ} {h : Header} (r : HeaderRight B h) (e s n k : ℕ) (l : k < n) (right : wrong_rule B e s (n - k) ≡ none)
-    where
-  rule : NextRule B e s (n - (k + 1))
-  rule = next_rule B e s n k l right
+  where
+    rule : NextRule B e s (n - (k + 1))
+    rule = next_rule B e s n k l right
 
-  module _ {x y : ℕ} (is_x : x ≡ byte B s) (is_y : y ≡ byte B (s + 1)) where
-    counted : x + y ≡ body_count B s + head_count B s
-    counted = omega arith
+    module _ {x y : ℕ} (is_x : x ≡ byte B s) (is_y : y ≡ byte B (s + 1)) where
+      counted : x + y ≡ body_count B s + head_count B s
+      counted = omega arith
 
-    atoms : told 7 (wrong_in_atoms B (s + 2) (x + y)) ≡ told 7 (wrong_in_atoms B (s + 2) (body_count B s + head_count B s))
-    atoms = ap (λ (m : ℕ). told 7 (wrong_in_atoms B (s + 2) m)) counted
+      atoms : told 7 (wrong_in_atoms B (s + 2) (x + y)) ≡ told 7 (wrong_in_atoms B (s + 2) (body_count B s + head_count B s))
+      atoms = ap (λ (m : ℕ). told 7 (wrong_in_atoms B (s + 2) m)) counted
 
-    -- where it ends, as the code finds it
-    ends : s + 2 + atom_size B * (x + y) ≡ rule_end B s
-    ends = ap (λ (m : ℕ). s + 2 + atom_size B * m) counted
+      -- where it ends, as the code finds it
+      ends : s + 2 + atom_size B * (x + y) ≡ rule_end B s
+      ends = ap (λ (m : ℕ). s + 2 + atom_size B * m) counted
 
-    next : {z : ℕ} → z ≡ (1 + h.places) * (x + y) → s + (2 + z) ≡ rule_end B s
-    next is = omega (arith, ends, ap (λ (w : ℕ). (1 + w) * (x + y)) (known r).places_are)
+      next : {z : ℕ} → z ≡ (1 + h.places) * (x + y) → s + (2 + z) ≡ rule_end B s
+      next is = omega (arith, ends, ap (λ (w : ℕ). (1 + w) * (x + y)) (known r).places_are)
 
 pub bounds-book-s : goal.bounds-book-s
 bounds-book-s c = let a = c.args in omega (arith, (rule a.self.right a.end c.loop-k.s a.n c.loop-k.k c.loop-k-test.true c.loop-k.invariant.0).ends)
