@@ -1,24 +1,26 @@
 -- Laws of looking for a variable, a place and an atom at a time, and of an atom that brings those after it nothing new:
 -- one candidate from which they cannot be placed tells that none serves. Assumes nothing.
 use mathlib.Core.Path.{◌≡◌, refl, sym, ◌∙◌, ap}
-use mathlib.Core.Bool.{Bool, true, false, not, ◌&&◌, ◌||◌}
+use mathlib.Core.Bool.{Bool, true, false, true≢false, not, ◌&&◌, ◌||◌}
 use mathlib.Core.List.{List, [], ◌∷◌}
 use mathlib.Core.Option.{Option, none}
 use Prim.Native.Nat.{ℕ, ◌+◌, ◌-◌, ◌≤◌, ◌<◌}
-use lib.Dec.{eqb, eqb→eq}
 use lib.ListN.{length, get_or}
 use Rattle.covering.specs.Lists.{any, is_some}
 use Rattle.covering.specs.Term.{Term, var, Atom, Question, terms, eq_term}
 use Rattle.covering.specs.Search.{Part, place_atom}
-use Rattle.covering.specs.Record.{stored, term_of, args_at, atom_at, atoms_at}
+use Rattle.covering.specs.Record.{term_of, args_at}
 use Rattle.covering.proofs.Bytes.{args_more, args_end, term_var, term_con}
-use Rattle.covering.proofs.Places.{atoms_none, atoms_more}
-use Rattle.covering.proofs.Lists.{any_append, any_in, some_of}
-use Rattle.covering.proofs.Tests.{both, fst_of, snd_of, true→T, T→false, false→no}
+use Rattle.covering.proofs.Lists.{any_in, some_of}
+use Rattle.covering.proofs.Tests.{both, true→T, T→false, false→no}
 use Rattle.covering.proofs.Terms.{eq→eq_term}
 use Rattle.covering.proofs.Local.{NothingNew, none_serves}
-use Rattle.cover.specs.Candidates.{placed_on, tried, new_to, leads_on}
-use Rattle.cover.specs.HeldMap.{part_of, said, Searched}
+use Rattle.cover.specs.Candidates.{placed_on, tried, new_to, leads_on, is_placed, is_met}
+use denote.Enum.Bare.{sameb}
+use Rattle.cover.specs.contracts.search.Tried.{the_type}
+use Rattle.cover.specs.declared.search.Tried.{Tried}
+use Rattle.cover.specs.declared.search.Tried.TheVariants.{Apart, Placed, Met}
+use Rattle.cover.specs.HeldMap.{part_of, Searched}
 use Rattle.cover.proofs.Maps.{part_none, part_some}
 use Rattle.cover.proofs.SearchSteps.{on_placed}
 
@@ -42,28 +44,6 @@ module _ (f : Term → Bool) (F : List ℕ) (i j w : ℕ) (lt : j < w) where
 pub args_none : (f : Term → Bool) (F : List ℕ) (i w : ℕ) → w ≡ 0 → any f (args_at F i w) ≡ false
 unfolding args_at
 args_none f F i w e = rw (e, args_at) refl
-
--- the terms of the atoms that are left
-module _ (f : Term → Bool) (F : List ℕ) (i left : ℕ) where
-  abbrev within : Bool
-  within = any f (terms (atoms_at stored F i left))
-
-  pub terms_none : left ≡ 0 → within ≡ false
-  terms_none e = rw (atoms_none stored F i left e) refl
-
-  terms_step : 0 < left
-      → within ≡ (any f (args_at F (i + 1) 6) || any f (terms (atoms_at stored F (i + 7) (left - 1))))
-  unfolding atom_at
-  terms_step h =
-      ap (λ A. any f (terms A)) (atoms_more stored F i left h)
-      ∙ any_append f (args_at F (i + 1) 6) (terms (atoms_at stored F (i + 7) (left - 1)))
-
-  pub terms_hit : 0 < left → any f (args_at F (i + 1) 6) ≡ true → within ≡ true
-  terms_hit h e = terms_step h ∙ ap (λ b. b || any f (terms (atoms_at stored F (i + 7) (left - 1)))) e
-
-  pub terms_miss : 0 < left → any f (args_at F (i + 1) 6) ≡ false
-      → within ≡ any f (terms (atoms_at stored F (i + 7) (left - 1)))
-  terms_miss h e = terms_step h ∙ ap (λ b. b || any f (terms (atoms_at stored F (i + 7) (left - 1)))) e
 
 pub and_no : (a b : Bool) → a ≡ false → (a && b) ≡ false
 and_no a b e = rw e refl
@@ -106,23 +86,28 @@ gives_up a A B C p b met failed alone =
     none_tried a A B C p
     (λ c. none_serves p a A B b c q.0 (nothing_new p a A alone) q.1 (sym (on_placed a A B p b q.1) ∙ failed))
 
+-- the code's test whether all were placed
+pub placed_is : (t : Tried) {b : Bool} → b ≡ sameb the_type t Placed → is_placed t ≡ b
+placed_is Apart e = sym e
+placed_is Placed e = sym e
+placed_is Met e = sym e
+
 -- so the search ends there, its map as it came
-pub search_ends : (a : Atom) (A B C : Question) (b : Atom) (came m gone : List ℕ) (o : Option Part) (n : ℕ) → m ≡ came
-    → o ≡ tried a A B C (part_of came) → Searched (placed_on a A B (part_of m) b) m gone (eqb n 1)
-    → (n ≡ 2 → is_some (place_atom (part_of m) a b) ≡ true) → (eqb n 2 && not (leads_on (part_of gone) a A)) ≡ true
+pub search_ends : (a : Atom) (A B C : Question) (b : Atom) (came m gone : List ℕ) (o : Option Part) (t : Tried) → m ≡ came
+    → o ≡ tried a A B C (part_of came) → Searched (placed_on a A B (part_of m) b) m gone (is_placed t)
+    → (t ≡ Met → is_some (place_atom (part_of m) a b) ≡ true) → (is_met t && not (leads_on (part_of gone) a A)) ≡ true
     → Searched o came gone false
-search_ends a A B C b came m gone o n e f s met g =
-    let both_hold = true→T _ g in
-    let two : n ≡ 2 = eqb→eq n 2 (fst_of (eqb n 2) _ both_hold) in
-    let alone = T→false _ (snd_of (eqb n 2) _ both_hold) in
-    let no : eqb n 1 ≡ false = ap (λ x. eqb x 1) two in
-    let back : gone ≡ came = s.back no ∙ e in
-    let failed = ap (λ x. placed_on a A B (part_of x) b) (sym e) ∙ sym s.finds ∙ ap (λ r. said r gone) no in
+search_ends a A B C b came m gone o Apart e f s met g = absurd (true≢false (sym g))
+search_ends a A B C b came m gone o Placed e f s met g = absurd (true≢false (sym g))
+search_ends a A B C b came m gone o Met e f s met g =
+    let alone = T→false _ (true→T _ g) in
+    let back : gone ≡ came = s.back refl ∙ e in
+    let failed = ap (λ x. placed_on a A B (part_of x) b) (sym e) ∙ sym s.finds in
     record {
       finds =
           sym
           (f
-          ∙ gives_up a A B C (part_of came) b (ap (λ x. is_some (place_atom (part_of x) a b)) (sym e) ∙ met two) failed
+          ∙ gives_up a A B C (part_of came) b (ap (λ x. is_some (place_atom (part_of x) a b)) (sym e) ∙ met refl) failed
           (ap (λ x. leads_on (part_of x) a A) (sym back) ∙ alone));
       back = λ t. back;
       long = ap length back;

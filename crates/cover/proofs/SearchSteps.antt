@@ -1,18 +1,30 @@
 -- Laws of the search over atoms that stand one after the other in bytes: one for each way through the code.
 -- Assumes nothing.
-use mathlib.Core.Path.{◌≡◌, refl, sym, ◌∙◌, ap}
+use mathlib.Core.Path.{◌≡◌, refl, sym, ◌∙◌, ap, ap₂}
 use mathlib.Core.Bool.{Bool, true, false, true≢false}
 use mathlib.Core.List.{List}
 use mathlib.Core.Option.{Option, none, some}
-use Prim.Native.Nat.{ℕ, ◌+◌, ◌-◌, ◌<◌}
+use Prim.Native.Nat.{ℕ, ◌+◌, ◌*◌, ◌-◌, ◌<◌}
+use native.Mathlib.Omega.{arith}
 use lib.ListN.{length, get_or}
 use Rattle.covering.specs.Lists.{is_some}
 use Rattle.covering.specs.Term.{Atom, Question}
 use Rattle.covering.specs.Search.{Part, place_atom, find_map}
 use Rattle.cover.specs.Candidates.{placed_on, found_on, tried, has_candidate}
-use Rattle.covering.specs.Record.{Layout, size, atom_at, atoms_at, question_of}
+use Rattle.covering.specs.Record.{Layout, stored, size, atom_at, atoms_at, are_atoms, question_of}
 use Rattle.cover.specs.HeldMap.{part_of, said, Searched}
-use Rattle.covering.proofs.Places.{atoms_none, atoms_more}
+use Rattle.covering.proofs.Places.{atoms_none, atoms_more, question_at_lem}
+
+-- the atoms of a record, of which n are passed
+module _ (B : List ℕ) where
+  pub none_passed : question_of stored B ≡ atoms_at stored B (1 + 0 * 7) (get_or B 0 0 - 0)
+  none_passed = question_at_lem stored B refl ∙ ap₂ (atoms_at stored B) (omega arith) (omega arith)
+
+  pub one_passed : (i n left : ℕ) → atoms_at stored B (i + n * 7 + 7) (left - n - 1) ≡ atoms_at stored B (i + (n + 1) * 7) (left - (n + 1))
+  one_passed i n left = ap₂ (atoms_at stored B) (omega arith) (omega arith)
+
+  pub sound_passed : (i n left : ℕ) → are_atoms stored B (i + n * 7 + 7) (left - n - 1) ≡ are_atoms stored B (i + (n + 1) * 7) (left - (n + 1))
+  sound_passed i n left = ap₂ (are_atoms stored B) (omega arith) (omega arith)
 
 -- the next atom is tried on all candidates
 module _ (L : Layout) (F : List ℕ) (i left : ℕ) (B : Question) (p : Part) where

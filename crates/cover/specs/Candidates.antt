@@ -1,10 +1,12 @@
 -- How the search goes from candidate to candidate, in the words of its own functions. That the look-ahead changes no
 -- answer, and that the first map is that of the first candidate of the first atom that serves, is in `proofs/Ahead`.
-use Rattle.std.specs.Prelude.{Bool, false, not, ◌&&◌, [], ◌∷◌}
+use Rattle.std.specs.Prelude.{Bool, true, false, not, ◌&&◌, [], ◌∷◌}
 use Rattle.std.proofs.Math.Option.{Option, some}
 use Rattle.covering.specs.Lists.{any, is_some, bind, first_of}
 use Rattle.covering.specs.Term.{Term, var, con, Atom, Question, terms, eq_term}
 use Rattle.covering.specs.Search.{Part, place_atom, find_map}
+use Rattle.cover.specs.declared.search.Tried.{Tried}
+use Rattle.cover.specs.declared.search.Tried.TheVariants.{Apart, Placed, Met}
 
 -- the atom a is placed on b, and A after it
 unfoldable pub placed_on : Atom → Question → Question → Part → Atom → Option Part
@@ -31,3 +33,15 @@ new_to p (con c) = false
 -- the atom a brings the atoms A something new: such a variable that stands in them
 unfoldable pub leads_on : Part → Atom → Question → Bool
 leads_on p a A = any (λ t. new_to p t && any (eq_term t) (terms A)) a.args
+
+-- what became of a candidate: the atom and those after it are placed
+abbrev pub is_placed : Tried → Bool
+is_placed Apart = false
+is_placed Placed = true
+is_placed Met = false
+
+-- the atom meets it, and those after it cannot be placed
+abbrev pub is_met : Tried → Bool
+is_met Apart = false
+is_met Placed = false
+is_met Met = true

@@ -1,6 +1,6 @@
 // Placing one atom of the first question on one atom of the second, under the map so far, and taking it back. The map
 // has a byte for each variable, 255 where it goes nowhere yet. A candidate is tested before a byte is written.
-ghost use Rattle.std.specs.Prelude.{◌≡◌, cond, ℕ, ◌+◌, ◌≤◌, ◌<◌, T, ltb, length, get_or};
+ghost use Rattle.std.specs.Prelude.{◌≡◌, cond, ℕ, ◌+◌, ◌≤◌, ◌<◌, T, ltb, get_or};
 ghost use Rattle.covering.specs.Lists.{is_some};
 ghost use Rattle.covering.specs.Search.{place_term, place_terms};
 ghost use Rattle.covering.specs.Record.{stored, term_of, args_at, used_first};
@@ -21,7 +21,6 @@ fn goes_to(
     t: u8,
 ) -> u8
     requires { (t < 96)
-        × (length map.now ≡ 96)
         × (i + j ≤ record_room)
         × (k + j ≤ record_room)
         × ((n : ℕ) → n < j → get_or second.now (k + n) 0 ≡ 255 → ⊥) }
@@ -32,12 +31,10 @@ fn goes_to(
     if had != 255 {
         return had;
     }
-    let mut n = 0;
-    while n < j {
+    for n in 0..j {
         if first[i + n] == t {
             return second[k + n];
         }
-        n += 1;
     }
     255
 }
@@ -51,8 +48,7 @@ fn term_meets(
     k: usize,
     j: usize,
 ) -> bool
-    requires { (length map.now ≡ 96)
-        × (i + j < record_room)
+    requires { (i + j < record_room)
         × (k + j < record_room)
         × ((n : ℕ) → n < j → get_or second.now (k + n) 0 ≡ 255 → ⊥)
         × (get_or second.now (k + j) 0 ≡ 255 → ⊥)
@@ -84,8 +80,7 @@ pub fn terms_meet(
     i: usize,
     k: usize,
 ) -> bool
-    requires { (length map.now ≡ 96)
-        × (i + 6 ≤ record_room)
+    requires { (i + 6 ≤ record_room)
         × (k + 6 ≤ record_room)
         × T (used_first stored first.now i 6) }
     ensures { result
@@ -95,8 +90,7 @@ pub fn terms_meet(
         (args_at first.now i 6)
         (args_at second.now k 6)) }
 {
-    let mut j = 0;
-    while j < 6 {
+    for j in 0..6 {
         if first[i + j] == 255 {
             return second[k + j] == 255;
         }
@@ -106,7 +100,6 @@ pub fn terms_meet(
         if !term_meets(first, second, map, i, k, j) {
             return false;
         }
-        j += 1;
     }
     true
 }
@@ -142,14 +135,12 @@ pub fn send(
         × HadBefore map.old first.now second.now i k 6 result }
 {
     let mut before = [255u8; 6];
-    let mut j = 0;
-    while j < 6 {
+    for j in 0..6 {
         let t = first[i + j];
         if t == 255 {
             return before;
         }
         before[j] = send_term(map, t, second[k + j]);
-        j += 1;
     }
     before
 }
@@ -159,12 +150,10 @@ pub fn take_back(first: &[u8; RECORD], map: &mut [u8; VARIABLES], i: usize, befo
     requires { i + 6 ≤ record_room }
     ensures { map.new ≡ taken_back map.old first.now i before 6 }
 {
-    let mut left = 6;
-    while 0 < left {
-        left -= 1;
-        let t = first[i + left];
+    for j in (0..6).rev() {
+        let t = first[i + j];
         if t < 96 {
-            map[t as usize] = before[left];
+            map[t as usize] = before[j];
         }
     }
 }

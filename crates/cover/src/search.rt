@@ -1,19 +1,19 @@
 // The search for a covering map: one function takes the next atom, one tries its next candidate, and they call each
 // other. One map is lent through it. What an atom placed is taken back before its next candidate is tried, so a no
 // leaves the map as it came.
-ghost use Rattle.std.specs.Prelude.{◌≡◌, ◌+◌, ◌*◌, ◌≤◌, ◌<◌, T, eqb, length, get_or, true, false, not, ◌&&◌};
+ghost use Rattle.std.specs.Prelude.{◌≡◌, ◌+◌, ◌*◌, ◌≤◌, ◌<◌, T, length, get_or, true, false, not, ◌&&◌};
 ghost use Rattle.covering.specs.Lists.{is_some, any, all};
 ghost use Rattle.covering.specs.Term.{terms, eq_term};
 ghost use Rattle.covering.specs.Search.{place_atom, find_map, covers};
-ghost use Rattle.cover.specs.Candidates.{placed_on, found_on, has_candidate, new_to, leads_on};
-ghost use Rattle.covering.specs.Record.{stored, width, term_of, args_at, is_atom, atom_at, atoms_at, question_of, SoundRecord};
+ghost use Rattle.cover.specs.Candidates.{placed_on, found_on, has_candidate, new_to, leads_on, is_placed, is_met};
+ghost use Rattle.covering.specs.Record.{stored, width, term_of, is_atom, atom_at, atoms_at, question_of, SoundRecord};
 ghost use Rattle.cover.specs.HeldMap.{part_of, Searched};
 ghost use Rattle.covering.specs.Buffer.{AtomsIn, record_room};
 
 use crate::VARIABLES;
 use crate::place::{send, take_back, terms_meet};
 use covering::RECORD;
-use records::copy_record;
+use records::{copy_record, stands_in};
 
 // Whether the atom of first at i can be placed on one of the atoms of second, as the map is now.
 fn has_candidate(
@@ -22,8 +22,7 @@ fn has_candidate(
     map: &[u8; VARIABLES],
     i: usize,
 ) -> bool
-    requires { (length map.now ≡ 96)
-        × (i + 7 ≤ record_room)
+    requires { (i + 7 ≤ record_room)
         × T (is_atom stored first.now i)
         × (width stored (get_or second.now 0 0) ≤ record_room) }
     ensures { result
@@ -32,16 +31,11 @@ fn has_candidate(
         (question_of stored second.now)
         (atom_at stored first.now i) }
 {
-    let mut at = 1;
-    let mut more = second[0];
-    while 0 < more {
-        if first[i] == second[at] {
-            if terms_meet(first, second, map, i + 1, at + 1) {
-                return true;
-            }
+    for n in 0..usize::from(second[0]) {
+        let k = 1 + n * 7;
+        if first[i] == second[k] && terms_meet(first, second, map, i + 1, k + 1) {
+            return true;
         }
-        at += 7;
-        more -= 1;
     }
     false
 }
@@ -54,23 +48,16 @@ fn all_have(
     i: usize,
     left: usize,
 ) -> bool
-    requires { (length map.now ≡ 96)
-        × AtomsIn stored first.now i left
-        × (width stored (get_or second.now 0 0) ≤ record_room)
-        × (length first.now ≡ record_room) }
+    requires { AtomsIn stored first.now i left × (width stored (get_or second.now 0 0) ≤ record_room) }
     ensures { result
         ≡ all
         (has_candidate (part_of map.now) (question_of stored second.now))
         (atoms_at stored first.now i left) }
 {
-    let mut at = i;
-    let mut more = left;
-    while 0 < more {
-        if !has_candidate(first, second, map, at) {
+    for n in 0..left {
+        if !has_candidate(first, second, map, i + n * 7) {
             return false;
         }
-        at += 7;
-        more -= 1;
     }
     true
 }
@@ -84,10 +71,7 @@ fn seen_dead(
     left: usize,
     look: bool,
 ) -> bool
-    requires { (length map.now ≡ 96)
-        × AtomsIn stored first.now i left
-        × (width stored (get_or second.now 0 0) ≤ record_room)
-        × (length first.now ≡ record_room) }
+    requires { AtomsIn stored first.now i left × (width stored (get_or second.now 0 0) ≤ record_room) }
     ensures { result ≡ true
         → all
         (has_candidate (part_of map.now) (question_of stored second.now))
@@ -100,45 +84,9 @@ fn seen_dead(
     !all_have(first, second, map, i, left)
 }
 
-// Whether t is one of the places of the atom of first at i.
-fn stands_at(first: &[u8; RECORD], i: usize, t: u8) -> bool
-    requires { (i + 7 ≤ record_room) × (t < 96) }
-    ensures { result ≡ any (eq_term (term_of t)) (args_at first.now (i + 1) 6) }
-{
-    let mut j = 0;
-    while j < 6 {
-        let u = first[i + 1 + j];
-        if u == t {
-            return true;
-        }
-        if u == 255 {
-            return false;
-        }
-        j += 1;
-    }
-    false
-}
-
-// Whether t stands in one of the `left` atoms of first from i on.
-fn stands_in(first: &[u8; RECORD], i: usize, left: usize, t: u8) -> bool
-    requires { (i + left * 7 ≤ record_room) × (t < 96) }
-    ensures { result ≡ any (eq_term (term_of t)) (terms (atoms_at stored first.now i left)) }
-{
-    let mut at = i;
-    let mut more = left;
-    while 0 < more {
-        if stands_at(first, at, t) {
-            return true;
-        }
-        at += 7;
-        more -= 1;
-    }
-    false
-}
-
 // Whether the place u of an atom is a variable that goes nowhere yet and stands in the `left` atoms of first from i on.
 fn place_leads(first: &[u8; RECORD], map: &[u8; VARIABLES], i: usize, left: usize, u: u8) -> bool
-    requires { (length map.now ≡ 96) × (i + left * 7 ≤ record_room) × (96 ≤ u → 128 ≤ u) }
+    requires { (i + left * 7 ≤ record_room) × (96 ≤ u → 128 ≤ u) }
     ensures { result
         ≡ (new_to (part_of map.now) (term_of u)
         && any (eq_term (term_of u)) (terms (atoms_at stored first.now i left))) }
@@ -154,17 +102,14 @@ fn place_leads(first: &[u8; RECORD], map: &[u8; VARIABLES], i: usize, left: usiz
 
 // Whether the atom of first at i brings the `left` atoms after it a variable that goes nowhere yet.
 fn leads_on(first: &[u8; RECORD], map: &[u8; VARIABLES], i: usize, left: usize) -> bool
-    requires { (length map.now ≡ 96)
-        × AtomsIn stored first.now i (left + 1)
-        × (length first.now ≡ record_room) }
+    requires { AtomsIn stored first.now i (left + 1) }
     ensures { result
         ≡ leads_on
         (part_of map.now)
         (atom_at stored first.now i)
         (atoms_at stored first.now (i + 7) left) }
 {
-    let mut j = 0;
-    while j < 6 {
+    for j in 0..6 {
         let u = first[i + 1 + j];
         if u == 255 {
             return false;
@@ -172,34 +117,38 @@ fn leads_on(first: &[u8; RECORD], map: &[u8; VARIABLES], i: usize, left: usize) 
         if place_leads(first, map, i + 7, left, u) {
             return true;
         }
-        j += 1;
     }
     false
 }
 
 // What becomes of a candidate: the atom does not meet it; it and those after it are placed; it meets it, and those after
 // it cannot be placed.
-const APART: u8 = 0;
-
-const PLACED: u8 = 1;
-
-const MET: u8 = 2;
+#[derive(Clone, Copy, PartialEq, Eq)]
+enum Tried {
+    Apart,
+    Placed,
+    Met,
+}
 
 // Whether no other candidate has to be tried: the atom of first at i met this one, those after it could not be placed, and
 // it brings them nothing new, so that they cannot be placed wherever it goes.
-fn gives_up(first: &[u8; RECORD], map: &[u8; VARIABLES], i: usize, left: usize, tried: u8) -> bool
-    requires { (length map.now ≡ 96)
-        × AtomsIn stored first.now i (left + 1)
-        × (length first.now ≡ record_room) }
+fn gives_up(
+    first: &[u8; RECORD],
+    map: &[u8; VARIABLES],
+    i: usize,
+    left: usize,
+    tried: Tried,
+) -> bool
+    requires { AtomsIn stored first.now i (left + 1) }
     ensures { result
-        ≡ (eqb tried 2
+        ≡ (is_met tried
         && not
         (leads_on
         (part_of map.now)
         (atom_at stored first.now i)
         (atoms_at stored first.now (i + 7) left))) }
 {
-    if tried != MET {
+    if tried != Tried::Met {
         return false;
     }
     !leads_on(first, map, i, left)
@@ -218,10 +167,7 @@ pub fn place_next(
     left: usize,
     careful: bool,
 ) -> bool
-    requires { (length map.old ≡ 96)
-        × AtomsIn stored first.now i left
-        × (width stored (get_or second.now 0 0) ≤ record_room)
-        × (length first.now ≡ record_room) }
+    requires { AtomsIn stored first.now i left × (width stored (get_or second.now 0 0) ≤ record_room) }
     ensures { Searched
         (find_map
         (atoms_at stored first.now i left)
@@ -238,22 +184,19 @@ pub fn place_next(
         return false;
     }
     let mut looks = careful;
-    let mut k = 1;
-    let mut more = second[0];
-    while 0 < more {
-        let tried = try_candidate(first, second, map, i, left - 1, k, looks);
-        if tried == PLACED {
+    for n in 0..usize::from(second[0]) {
+        let tried = try_candidate(first, second, map, i, left - 1, 1 + n * 7, looks);
+        if tried == Tried::Placed {
             return true;
         }
         if gives_up(first, map, i, left - 1, tried) {
             return false;
         }
-        if seen_dead(first, second, map, i, left, (tried == MET) & !looks) {
+        let met = tried == Tried::Met;
+        if seen_dead(first, second, map, i, left, met & !looks) {
             return false;
         }
-        looks = looks | (tried == MET);
-        k += 7;
-        more -= 1;
+        looks |= met;
     }
     false
 }
@@ -269,13 +212,11 @@ fn try_candidate(
     left: usize,
     k: usize,
     careful: bool,
-) -> u8
-    requires { (length map.old ≡ 96)
-        × AtomsIn stored first.now i (left + 1)
+) -> Tried
+    requires { AtomsIn stored first.now i (left + 1)
         × (k + 7 ≤ record_room)
-        × (width stored (get_or second.now 0 0) ≤ record_room)
-        × (length first.now ≡ record_room) }
-    ensures { Searched
+        × (width stored (get_or second.now 0 0) ≤ record_room) }
+    ensures searched { Searched
         (placed_on
         (atom_at stored first.now i)
         (atoms_at stored first.now (i + 7) left)
@@ -284,27 +225,27 @@ fn try_candidate(
         (atom_at stored second.now k))
         map.old
         map.new
-        (eqb result 1)
-        × (result ≡ 2
+        (is_placed result) }
+    ensures met { result ≡ Tried.Met
         → is_some
         (place_atom
         (part_of map.old)
         (atom_at stored first.now i)
         (atom_at stored second.now k))
-        ≡ true) }
+        ≡ true }
 {
     if first[i] != second[k] {
-        return APART;
+        return Tried::Apart;
     }
     if !terms_meet(first, second, map, i + 1, k + 1) {
-        return APART;
+        return Tried::Apart;
     }
     let before = send(first, second, map, i + 1, k + 1);
     if place_next(first, second, map, i + 7, left, careful) {
-        return PLACED;
+        return Tried::Placed;
     }
     take_back(first, map, i + 1, before);
-    MET
+    Tried::Met
 }
 
 // Whether the first record covers the second, where both are known to be sound and count all their atoms. Where a
@@ -345,5 +286,5 @@ pub fn covers_on(first: &[u8], second: &[u8; RECORD], map: &mut [u8; VARIABLES],
     }
     let held = copy_record(first);
     let n = held[0] as usize;
-    try_candidate(&held, second, map, 1, n - 1, 1 + k * 7, false) == PLACED
+    try_candidate(&held, second, map, 1, n - 1, 1 + k * 7, false) == Tried::Placed
 }

@@ -1,11 +1,9 @@
 -- `cover::desk::covers` meets its contract: the first record is judged, then the second, then the search decides, and
 -- leaves the first map or none.
-use mathlib.Core.Path.{◌≡◌, refl, sym, ap, ◌∙◌}
+use mathlib.Core.Path.{sym, ap, ◌∙◌}
 use mathlib.Core.Bool.{cond}
 use lib.ListN.{take}
-use Prim.Native.Nat.{ℕ}
 use Rattle.covering.specs.Desk.{map_size}
-use Rattle.covering.proofs.Tests.{true→T}
 use Rattle.covering.proofs.Answers.{answer_2, answer_3, map_2, map_3}
 use Rattle.cover.proofs.Told.{number_searched, map_searched}
 use Rattle.cover.proofs.desk.covers.Goals as goal

@@ -71,12 +71,9 @@ widened-two-requires c = c.requires.1
 
 pub place_next-requires : goal.place_next-requires
 place_next-requires c =
-    let long : length c.widened-one.result ≡ record_room = search rules in
     let room : length c.widened-two.result ≡ record_room = search rules in (
-      ap length c.requires.2,
       (held_within _ _ (first_fits c.before.before.before.before.before.before.before.before.before.before.before) c.widened-one.ensures).0,
       rw (← room) (held_within _ _ (second_fits c.before.before.before.before.before.before.before.before.before.before.before) c.widened-two.ensures).0.fits,
-      long,
     )
 
 pub returns : goal.returns

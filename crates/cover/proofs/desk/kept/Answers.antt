@@ -1,6 +1,5 @@
 -- `cover::desk::kept` meets its contract: the two answers say which record is kept, and by which map.
-use mathlib.Core.Path.{◌≡◌, sym, ap, ◌∙◌}
-use Rattle.std.specs.Prelude.{None}
+use mathlib.Core.Path.{sym, ap, ◌∙◌}
 use Rattle.covering.specs.Desk.{chosen_number, kept_answer}
 use Rattle.covering.proofs.Answers.{keeps_first, keeps_second, keeps_neither, map_first, map_second, map_neither}
 use Rattle.cover.specs.Told.{which_told, kept_map_told}

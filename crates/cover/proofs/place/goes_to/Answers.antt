@@ -1,8 +1,8 @@
--- `cover::place::goes_to` meets its contract. The loop's invariant: after n places the variable goes nowhere yet. The
--- measure is the number of places left.
+-- `cover::place::goes_to` meets its contract. The loop's invariant: after n places the variable goes nowhere yet.
 use native.Mathlib.Omega.{arith}
 use mathlib.Core.Path.{◌≡◌, sym, ap, ◌∙◌}
-use lib.ListN.{get_or}
+use borrow.Author.Rules.{rules}
+use lib.ListN.{length, get_or}
 use Rattle.cover.specs.HeldMap.{sent_to}
 use Rattle.cover.proofs.Sent.{sent_none, sent_kept, sent_first, sent_passes}
 use Rattle.cover.proofs.place.goes_to.Goals as goal
@@ -14,21 +14,22 @@ pub loop-n-init : goal.loop-n-init
 loop-n-init c =
     let a = c.args in
     let e : get_or a.map.now a.t 0 ≡ 255 = omega (arith, c.if-had.false) in
-    (omega arith, ap (λ m. get_or m a.t 0) (sent_none a.map.now a.first.now a.second.now a.i a.k) ∙ e)
+    ap (λ m. get_or m a.t 0) (sent_none a.map.now a.first.now a.second.now a.i a.k) ∙ e
 
 pub returns-then-first-i : goal.returns-then-first-i
 returns-then-first-i c =
     let a = c.args in
+    let long : length a.map.now ≡ 96 = search rules in
     sym
-    (sent_first _ _ _ _ _ a.t c.loop-n.n a.j (omega arith) (omega arith) (omega arith) c.if-first-i.true c.loop-n.invariant.1
-    (c.requires.4 _ (omega arith)))
+    (sent_first _ _ _ _ _ a.t c.loop-n.n a.j (omega arith) (omega arith) long c.if-first-i.true c.loop-n.invariant
+    (c.requires.3 _ (omega arith)))
 
 pub loop-n-preserved : goal.loop-n-preserved
-loop-n-preserved c = (omega arith, sent_passes _ _ _ _ _ _ _ c.if-first-i.false c.loop-n.invariant.1)
+loop-n-preserved c = sent_passes _ _ _ _ _ _ _ c.if-first-i.false c.loop-n.invariant
 
 pub returns : goal.returns
 returns c =
     let a = c.args in
     let e : a.j ≡ c.loop-n.n = omega arith in
     let sent = sent_to a.map.now a.first.now a.second.now a.i a.k in
-    sym (ap (λ n. get_or (sent n) a.t 0) e ∙ c.loop-n.invariant.1)
+    sym (ap (λ n. get_or (sent n) a.t 0) e ∙ c.loop-n.invariant)

@@ -1,13 +1,8 @@
--- `cover::place::goes_to` meets its contract. The loop's invariant: after n places the variable goes nowhere yet. The
--- measure is the number of places left.
+-- `cover::place::goes_to` meets its contract. The loop's invariant: after n places the variable goes nowhere yet.
 use mathlib.Core.Path.{◌≡◌}
-use Prim.Native.Nat.{◌-◌, ◌≤◌}
 use lib.ListN.{get_or}
 use Rattle.cover.specs.HeldMap.{sent_to}
 use Rattle.cover.proofs.place.goes_to.Given as goal
 
 abbrev pub invariant-loop-n : goal.invariant-loop-n
-invariant-loop-n l = (l.n ≤ l.j) × (get_or (sent_to l.map l.first l.second l.i l.k l.n) l.t 0 ≡ 255)
-
-abbrev pub decreases-loop-n : goal.decreases-loop-n
-decreases-loop-n l = l.j - l.n
+invariant-loop-n l = get_or (sent_to l.map l.first l.second l.i l.k l.n) l.t 0 ≡ 255

@@ -3,6 +3,7 @@ use native.Mathlib.Omega.{arith}
 use mathlib.Core.Path.{◌≡◌, sym, ap, ◌∙◌}
 use Prim.Native.Nat.{◌+◌, ◌<◌}
 use lib.Dec.{eqb}
+use borrow.Author.Rules.{rules}
 use lib.ListN.{length, get_or}
 use Rattle.covering.specs.Lists.{is_some}
 use Rattle.cover.specs.HeldMap.{sent_to}
@@ -12,18 +13,19 @@ use Rattle.cover.proofs.Meeting.{some_if}
 use Rattle.cover.proofs.place.term_meets.Goals as goal
 
 pub returns-then-t-ge96 : goal.returns-then-t-ge96
-returns-then-t-ge96 c = sym (ap is_some (place_constant _ _ _ (c.requires.5 c.if-t-ge96.true)) ∙ some_if _ _)
+returns-then-t-ge96 c = sym (ap is_some (place_constant _ _ _ (c.requires.4 c.if-t-ge96.true)) ∙ some_if _ _)
 
 pub goes_to-goes-requires : goal.goes_to-goes-requires
-goes_to-goes-requires c = (omega arith, c.requires.0, omega arith, omega arith, c.requires.3)
+goes_to-goes-requires c = (omega arith, omega arith, omega arith, c.requires.2)
 
 pub returns-then-goes : goal.returns-then-goes
 returns-then-goes c =
     let a = c.args in
     let W = sent_to a.map.now a.first.now a.second.now a.i a.k a.j in
     let v : get_or a.first.now (a.i + a.j) 0 < 96 = omega arith in
-    let size : length W ≡ 96 = length_sent _ _ _ _ _ _ ∙ c.requires.0 in
-    sym (ap is_some (place_new W _ _ (omega arith) (omega arith) c.requires.4 (sym c.goes_to-goes.ensures ∙ c.if-goes.true)))
+    let long : length a.map.now ≡ 96 = search rules in
+    let size : length W ≡ 96 = length_sent _ _ _ _ _ _ ∙ long in
+    sym (ap is_some (place_new W _ _ (omega arith) (omega arith) c.requires.3 (sym c.goes_to-goes.ensures ∙ c.if-goes.true)))
 
 pub returns : goal.returns
 returns c =
@@ -31,5 +33,6 @@ returns c =
     let a = c.args in
     let W = sent_to a.map.now a.first.now a.second.now a.i a.k a.j in
     let v : get_or a.first.now (a.i + a.j) 0 < 96 = omega arith in
-    let size : length W ≡ 96 = length_sent _ _ _ _ _ _ ∙ c.requires.0 in
+    let long : length a.map.now ≡ 96 = search rules in
+    let size : length W ≡ 96 = length_sent _ _ _ _ _ _ ∙ long in
     sym (ap is_some (place_old W _ _ (omega arith) (omega arith) (λ e. c.if-goes.false (g ∙ e))) ∙ some_if _ _ ∙ ap (λ b. eqb b (get_or a.second.now (a.k + a.j) 0)) (sym g))

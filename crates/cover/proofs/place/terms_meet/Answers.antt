@@ -1,8 +1,10 @@
 -- `cover::place::terms_meet` meets its contract. The loop's invariant: sending all the places is sending those from the
--- j-th on under the map that the places before make, and these are sound. The measure is the number of places left.
+-- j-th on under the map that the places before make, and these are sound.
 use native.Mathlib.Omega.{arith}
 use native.Mathlib.Nat.{add-zero}
-use mathlib.Core.Path.{refl, sym, ap, ◌∙◌}
+use borrow.Author.Rules.{rules}
+use lib.ListN.{length}
+use mathlib.Core.Path.{◌≡◌, refl, sym, ap, ◌∙◌}
 use Rattle.covering.specs.Lists.{is_some}
 use Rattle.covering.specs.Record.{stored}
 use Rattle.covering.proofs.Bytes.{used_more, term_constant}
@@ -13,14 +15,14 @@ use Rattle.cover.proofs.place.terms_meet.Goals as goal
 
 pub loop-j-init : goal.loop-j-init
 loop-j-init c =
-    (omega arith, rw add-zero c.requires.3, (λ n lt. absurd (omega arith)), rw (add-zero, add-zero, sent_none) refl)
+    (rw add-zero c.requires.2, (λ n lt. absurd (omega arith)), rw (add-zero, add-zero, sent_none) refl)
 
 pub returns-then-first-i : goal.returns-then-first-i
 returns-then-first-i c =
     let a = c.args in
     sym
     (ap is_some
-    (c.loop-j.invariant.3
+    (c.loop-j.invariant.2
     ∙ places_end a.first.now a.second.now a.i a.k c.loop-j.j 6 (omega arith) _ c.if-first-i.true)
     ∙ some_if _ _)
 
@@ -29,7 +31,7 @@ returns-then-second-k c =
     let a = c.args in
     sym
     (ap is_some
-    (c.loop-j.invariant.3
+    (c.loop-j.invariant.2
     ∙ places_short a.first.now a.second.now a.i a.k c.loop-j.j 6 (omega arith) _ c.if-first-i.false
     c.if-second-k.true))
 
@@ -37,8 +39,8 @@ pub term_meets-requires : goal.term_meets-requires
 term_meets-requires c =
     let a = c.args in
     let used = c.if-first-i.false in
-    let u = used_more a.first.now a.i c.loop-j.j 6 (omega arith) stored c.loop-j.invariant.1 used in
-    (c.requires.0, omega arith, omega arith, c.loop-j.invariant.2, c.if-second-k.false, term_constant stored _ u.0)
+    let u = used_more a.first.now a.i c.loop-j.j 6 (omega arith) stored c.loop-j.invariant.0 used in
+    (omega arith, omega arith, c.loop-j.invariant.1, c.if-second-k.false, term_constant stored _ u.0)
 
 pub returns-then-not-term_meets : goal.returns-then-not-term_meets
 returns-then-not-term_meets c =
@@ -46,7 +48,7 @@ returns-then-not-term_meets c =
     let m = c.term_meets.ensures in
     sym
     (ap is_some
-    (c.loop-j.invariant.3
+    (c.loop-j.invariant.2
     ∙ places_clash a.first.now a.second.now a.i a.k c.loop-j.j 6 (omega arith) _
     c.if-first-i.false c.if-second-k.false
     (not_some _ (sym m ∙ c.if-not-term_meets.true))))
@@ -56,14 +58,14 @@ loop-j-preserved c =
     let a = c.args in
     let m = c.term_meets.ensures in
     let used = c.if-first-i.false in
-    let u = used_more a.first.now a.i c.loop-j.j 6 (omega arith) stored c.loop-j.invariant.1 used in (
-      omega arith,
+    let u = used_more a.first.now a.i c.loop-j.j 6 (omega arith) stored c.loop-j.invariant.0 used in
+    let long : length a.map.now ≡ 96 = search rules in (
       u.1,
-      one_used a.second.now a.k c.loop-j.j c.loop-j.invariant.2 c.if-second-k.false,
-      c.loop-j.invariant.3
-          ∙ sent_next _ _ _ _ _ 6 c.requires.0 _ (omega arith) c.loop-j.invariant.1 used c.if-second-k.false
+      one_used a.second.now a.k c.loop-j.j c.loop-j.invariant.1 c.if-second-k.false,
+      c.loop-j.invariant.2
+          ∙ sent_next _ _ _ _ _ 6 long _ (omega arith) c.loop-j.invariant.0 used c.if-second-k.false
           (sym m ∙ c.if-not-term_meets.false),
     )
 
 pub returns : goal.returns
-returns c = sym (ap is_some (c.loop-j.invariant.3 ∙ places_done _ _ _ _ _ _ (omega arith)))
+returns c = sym (ap is_some (c.loop-j.invariant.2 ∙ places_done _ _ _ _ _ _ (omega arith)))

@@ -21,10 +21,9 @@ returns-then-not-are_among c =
 
 pub place_next-requires : goal.place_next-requires
 place_next-requires c =
-    let long : length c.args.first.now ≡ record_room = search rules in
     let held = copy_sound _ _ c.requires.1 c.copy_record-held.ensures in
     let room : length c.copy_record-held.result ≡ record_room = search rules in
-    (refl, sound_in stored _ c.requires.0, rw (← room) held.fits, long)
+    (sound_in stored _ c.requires.0, rw (← room) held.fits)
 
 pub returns : goal.returns
 unfolding covers first_map

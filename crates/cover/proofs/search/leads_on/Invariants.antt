@@ -1,8 +1,8 @@
 -- `cover::search::leads_on` meets its contract. The loop's invariant: the atom brings something new exactly where a place
--- from the j-th on does, and these are sound. The measure is their number.
+-- from the j-th on does, and these are sound.
 use mathlib.Core.Path.{◌≡◌}
 use mathlib.Core.Bool.{◌&&◌}
-use Prim.Native.Nat.{◌+◌, ◌-◌, ◌≤◌}
+use Prim.Native.Nat.{◌+◌, ◌-◌}
 use lib.Dec.{T}
 use Rattle.covering.specs.Lists.{any}
 use Rattle.covering.specs.Term.{terms, eq_term}
@@ -12,11 +12,7 @@ use Rattle.cover.specs.Candidates.{new_to}
 use Rattle.cover.proofs.search.leads_on.Given as goal
 
 abbrev pub invariant-loop-j : goal.invariant-loop-j
-invariant-loop-j l = (l.j ≤ 6)
-    × T (used_first stored l.first (l.i + 1 + l.j) (6 - l.j))
+invariant-loop-j l = T (used_first stored l.first (l.i + 1 + l.j) (6 - l.j))
     × (any (λ t. new_to (part_of l.map) t && any (eq_term t) (terms (atoms_at stored l.first (l.i + 7) l.left))) (args_at l.first (l.i + 1) 6)
     ≡ any (λ t. new_to (part_of l.map) t && any (eq_term t) (terms (atoms_at stored l.first (l.i + 7) l.left)))
     (args_at l.first (l.i + 1 + l.j) (6 - l.j)))
-
-abbrev pub decreases-loop-j : goal.decreases-loop-j
-decreases-loop-j l = 6 - l.j

@@ -6,7 +6,7 @@ use Rattle.cover.proofs.Leads.{and_no, and_yes, constant_old, placed_old, free_n
 use Rattle.cover.proofs.search.place_leads.Goals as goal
 
 pub returns-then-u-ge96 : goal.returns-then-u-ge96
-returns-then-u-ge96 c = sym (and_no _ _ (constant_old c.args.map.now c.args.u (c.requires.2 c.if-u-ge96.true)))
+returns-then-u-ge96 c = sym (and_no _ _ (constant_old c.args.map.now c.args.u (c.requires.1 c.if-u-ge96.true)))
 
 pub returns-then-map-u : goal.returns-then-map-u
 returns-then-map-u c =
@@ -14,7 +14,7 @@ returns-then-map-u c =
     sym (and_no _ _ (placed_old c.args.map.now c.args.u (omega arith) (omega arith) c.if-map-u.true))
 
 pub stands_in-requires : goal.stands_in-requires
-stands_in-requires c = (omega arith, omega arith)
+stands_in-requires c = omega arith
 
 pub returns : goal.returns
 returns c =

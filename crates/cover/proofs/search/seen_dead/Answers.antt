@@ -8,7 +8,7 @@ pub returns-then-not-look : goal.returns-then-not-look
 returns-then-not-look c = λ e. absurd (true≢false (sym e))
 
 pub all_have-requires : goal.all_have-requires
-all_have-requires c = (c.requires.0, c.requires.1, c.requires.2, c.requires.3)
+all_have-requires c = c.requires
 
 pub returns : goal.returns
 returns c = λ e. sym c.all_have.ensures ∙ not-true _ e
