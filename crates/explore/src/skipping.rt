@@ -96,7 +96,7 @@ fn after_covered(
         if !prefix_covered(rule, member, work, sets, members, choice, p) {
             return from;
         }
-        from = after_prefix(member, rule, choice, p);
+        from = after_prefix(member, rule.parts.heads, choice, p);
     }
     from
 }

@@ -46,7 +46,6 @@ fn put_digit(
 
 // Whether no atom of the rule's head has the relation.
 fn is_unmet(rule: &Rule<'_>, relation: u8) -> bool
-    requires { rule.now.parts.head + rule.now.parts.heads * 7 ≤ length rule.now.book.now }
     ensures { result ≡ not (any (λ b. eqb relation b.rel) (rule_of rule.now.book.now rule.now.parts).head) }
 {
     let parts = rule.parts;
@@ -121,18 +120,17 @@ pub fn prefix_rewriting(
 }
 
 // The number of the first choice after those that have the first p digits of this one.
-pub fn after_prefix(question: &[u8], rule: &Rule<'_>, choice: usize, p: usize) -> usize
+pub fn after_prefix(question: &[u8], heads: usize, choice: usize, p: usize) -> usize
     requires { (1 ≤ length question.now)
-        × (1 ≤ rule.now.parts.heads)
-        × (rule.now.parts.heads ≤ 4)
+        × (1 ≤ heads)
+        × (heads ≤ 4)
         × (p ≤ get_or question.now 0 0)
         × (get_or question.now 0 0 ≤ p + 8)
         × (choice < most_choices) }
     ensures { result
-        ≡ (choice / count rule.now.parts.heads (get_or question.now 0 0 - p) + 1)
-        * count rule.now.parts.heads (get_or question.now 0 0 - p) }
+        ≡ (choice / count heads (get_or question.now 0 0 - p) + 1) * count heads (get_or question.now 0 0 - p) }
 {
     let n = usize::from(question[0]);
-    let each = choice_count(rule.parts.heads, n - p);
+    let each = choice_count(heads, n - p);
     (choice / each + 1) * each
 }

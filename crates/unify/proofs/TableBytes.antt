@@ -20,12 +20,6 @@ use Rattle.unification.specs.Step.{up}
 use Rattle.unify.specs.Table.{Table, look, join_table, own}
 use Rattle.unify.specs.InBytes.{classes_of, merged}
 
-pub moved_variable : (u : ℕ) → u < 48 → term_of (u + 48) ≡ on_term (up 48) (term_of u)
-moved_variable u h = term_var (u + 48) (omega arith) ∙ ap var (omega arith) ∙ sym (ap (on_term (up 48)) (term_var u (omega arith)))
-
-pub moved_constant : (u : ℕ) → 128 ≤ u → term_of u ≡ on_term (up 48) (term_of u)
-moved_constant u h = term_con u h ∙ sym (ap (on_term (up 48)) (term_con u h))
-
 -- an entry of the classes, whatever stands past their end
 pub classes_at : (m : List ℕ) (n : ℕ) (d : Term) → n < length m → get_or (classes_of m) n d ≡ term_of (get_or m n 0)
 unfolding classes_of

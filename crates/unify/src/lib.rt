@@ -3,6 +3,8 @@
 // classes are over 96 variables: 96 bytes, at each variable's number the byte of the term that stands for its class.
 #![tactic(auto)]
 
+ghost use Rattle.std.specs.Prelude.{◌+◌, ◌*◌, ◌≤◌, length};
+
 use book::Parts;
 
 mod byte;
@@ -16,9 +18,11 @@ pub use stuck::some_stuck;
 pub use unknowns::has_unknowns;
 pub use validity::is_valid;
 
-// A rule where it stands: its book, and where in it the body and the head are.
+// A rule where it stands: its book, and where in it the body and the head are. They end within the book.
 #[derive(Clone, Copy)]
 pub struct Rule<'a> {
     pub book: &'a [u8],
     pub parts: Parts,
+    pub ghost body_inside: { parts.body + parts.bodies * 7 ≤ length book.now },
+    pub ghost head_inside: { parts.head + parts.heads * 7 ≤ length book.now },
 }

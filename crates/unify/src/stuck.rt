@@ -14,12 +14,10 @@ ghost use Rattle.unify.specs.Stuck.{TiedTo, Barred, Stuck};
 
 use crate::Rule;
 use crate::byte::{moved, stands_for};
-use crate::validity::in_atoms;
+use records::stands_in;
 
 // Whether an existential variable other than u stands for the class of t.
 fn tied_to(rule: &Rule<'_>, table: &[u8; 96], t: u8, u: u8) -> bool
-    requires { (rule.now.parts.body + rule.now.parts.bodies * 7 ≤ length rule.now.book.now)
-        × (rule.now.parts.head + rule.now.parts.heads * 7 ≤ length rule.now.book.now) }
     ensures { result ≡ true
         → TiedTo
         (tabled (classes_of table.now))
@@ -41,18 +39,16 @@ fn tied_to(rule: &Rule<'_>, table: &[u8; 96], t: u8, u: u8) -> bool
         return false;
     }
     let v = z - 48;
-    if in_atoms(rule.book, rule.parts.body, rule.parts.bodies, v) {
+    if stands_in(rule.book, rule.parts.body, rule.parts.bodies, v) {
         return false;
     }
-    in_atoms(rule.book, rule.parts.head, rule.parts.heads, v)
+    stands_in(rule.book, rule.parts.head, rule.parts.heads, v)
 }
 
 // Whether a term in the used places of the question from i on is in the class of an existential variable: then the atom
 // cannot be left.
 fn tied_places(question: &[u8], rule: &Rule<'_>, table: &[u8; 96], i: usize) -> bool
-    requires { (rule.now.parts.body + rule.now.parts.bodies * 7 ≤ length rule.now.book.now)
-        × (rule.now.parts.head + rule.now.parts.heads * 7 ≤ length rule.now.book.now)
-        × (i + 6 ≤ length question.now) }
+    requires { i + 6 ≤ length question.now }
     ensures { result ≡ true
         → (t : Term)
         × (t ∈ args_at question.now i 6)
@@ -77,9 +73,7 @@ fn tied_places(question: &[u8], rule: &Rule<'_>, table: &[u8; 96], i: usize) -> 
 // Whether such a term would meet another term than that variable, were the places of the question from i on put with
 // those of the head from k on: then the atom cannot be sent there.
 fn barred_places(question: &[u8], rule: &Rule<'_>, table: &[u8; 96], i: usize, k: usize) -> bool
-    requires { (rule.now.parts.body + rule.now.parts.bodies * 7 ≤ length rule.now.book.now)
-        × (rule.now.parts.head + rule.now.parts.heads * 7 ≤ length rule.now.book.now)
-        × (i + 6 ≤ length question.now)
+    requires { (i + 6 ≤ length question.now)
         × (k + 6 ≤ length rule.now.book.now)
         × T (used_first in_book rule.now.book.now k 6) }
     ensures { result ≡ true
@@ -110,9 +104,7 @@ fn barred_places(question: &[u8], rule: &Rule<'_>, table: &[u8; 96], i: usize, k
 
 // Whether the atom of the question at i cannot be sent to the head atom at k.
 fn is_barred(question: &[u8], rule: &Rule<'_>, table: &[u8; 96], i: usize, k: usize) -> bool
-    requires { (rule.now.parts.body + rule.now.parts.bodies * 7 ≤ length rule.now.book.now)
-        × (rule.now.parts.head + rule.now.parts.heads * 7 ≤ length rule.now.book.now)
-        × (i + 7 ≤ length question.now)
+    requires { (i + 7 ≤ length question.now)
         × (k + 7 ≤ length rule.now.book.now)
         × T (is_atom in_book rule.now.book.now k) }
     ensures { result ≡ true
@@ -130,8 +122,7 @@ fn is_barred(question: &[u8], rule: &Rule<'_>, table: &[u8; 96], i: usize, k: us
 
 // Whether it can neither be left nor sent.
 fn is_stuck(question: &[u8], rule: &Rule<'_>, table: &[u8; 96], i: usize) -> bool
-    requires { (rule.now.parts.body + rule.now.parts.bodies * 7 ≤ length rule.now.book.now)
-        × AtomsIn in_book rule.now.book.now rule.now.parts.head rule.now.parts.heads
+    requires { AtomsIn in_book rule.now.book.now rule.now.parts.head rule.now.parts.heads
         × (i + 7 ≤ length question.now) }
     ensures { result ≡ true
         → Stuck
@@ -154,8 +145,7 @@ fn is_stuck(question: &[u8], rule: &Rule<'_>, table: &[u8; 96], i: usize) -> boo
 
 // Whether one of the n atoms of the question from i on is stuck.
 pub fn some_stuck(question: &[u8], rule: &Rule<'_>, table: &[u8; 96], i: usize, n: usize) -> bool
-    requires { (rule.now.parts.body + rule.now.parts.bodies * 7 ≤ length rule.now.book.now)
-        × AtomsIn in_book rule.now.book.now rule.now.parts.head rule.now.parts.heads
+    requires { AtomsIn in_book rule.now.book.now rule.now.parts.head rule.now.parts.heads
         × (i + n * 7 ≤ length question.now) }
     ensures { result ≡ true
         → (a : Atom)

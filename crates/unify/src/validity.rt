@@ -10,48 +10,8 @@ ghost use Rattle.unify.specs.Table.{tabled};
 ghost use Rattle.unify.specs.InBytes.{in_book, rule_of, classes_of};
 
 use crate::Rule;
-use crate::byte::{moved, stands_for};
-
-// Whether the term t stands in one of the used places from i on.
-fn in_places(s: &[u8], i: usize, t: u8) -> bool
-    requires { i + 6 ≤ length s.now }
-    ensures { result ≡ mem_term (term_of t) (args_at s.now i 6) }
-{
-    for j in 0..6 {
-        let u = s[i + j];
-        if u == 255 {
-            return false;
-        }
-        if t == u {
-            return true;
-        }
-    }
-    false
-}
-
-// Whether the term t stands in one of the n atoms from i on.
-pub fn in_atoms(s: &[u8], i: usize, n: usize, t: u8) -> bool
-    requires { i + n * 7 ≤ length s.now }
-    ensures { result ≡ mem_term (term_of t) (terms (atoms_at stored s.now i n)) }
-{
-    for k in 0..n {
-        if in_places(s, i + k * 7 + 1, t) {
-            return true;
-        }
-    }
-    false
-}
-
-// A term, its variable moved up by shift: 0 for a left atom's term, 48 for a rule's.
-fn shifted(u: u8, shift: u8) -> u8
-    requires { (48 ≤ u → 128 ≤ u) × (shift ≤ 48) }
-    ensures { term_of result ≡ on_term (up shift) (term_of u) }
-{
-    if u < 48 {
-        return shift + u;
-    }
-    u
-}
+use crate::byte::{moved, shifted, stands_for};
+use records::stands_in;
 
 // Whether the term t is z itself or is in another class than the one that rep stands for.
 fn is_apart(table: &[u8; 96], t: u8, z: u8, rep: u8) -> bool
@@ -151,7 +111,7 @@ fn is_allowed(left: &[u8], rule: &Rule<'_>, table: &[u8; 96], u: u8) -> bool
     if 128 <= u {
         return true;
     }
-    if in_atoms(rule.book, rule.parts.body, rule.parts.bodies, u) {
+    if stands_in(rule.book, rule.parts.body, rule.parts.bodies, u) {
         return true;
     }
     let z = moved(u);

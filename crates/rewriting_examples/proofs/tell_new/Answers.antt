@@ -17,6 +17,15 @@ rule_at-parts-requires g c =
     let some : 0 < rules B = omega (arith, ap (λ (h : Header). h.rules) c.read-h.ensures.is, c.if-h-eq0.false) in
     (omega (arith, c.starts-at.ensures.starts 0 (omega arith), (sound_rule B c.requires.0 0 some).ends, (sound_header B c.requires.0).ends), c.requires.1)
 
+pub invariant_of-list : goal.invariant_of-list
+invariant_of-list g c =
+    let B = c.args.book.now in
+    let some : 0 < rules B = omega (arith, ap (λ (h : Header). h.rules) c.read-h.ensures.is, c.if-h-eq0.false) in
+    let r =
+    subst (RuleIn B) (sym (c.rule_at-parts.ensures ∙ ap (parts_at B) (c.starts-at.ensures.starts 0 (omega arith))))
+    (rule_in_lem B c.requires.0 c.requires.1 0 some) in
+    record { body_inside = r.body.fits; head_inside = r.head.fits }
+
 pub list-requires : goal.list-requires
 list-requires g c =
     let B = c.args.book.now in

@@ -25,11 +25,11 @@ relations_at-relations-requires c =
     (parts_in c.args.book.now c.requires.0 c.args.starts.now c.requires.2 _ (omega (arith, c.requires.1))
     c.requires.3 _ c.rule_at-parts.ensures).head.fits
 
-pub has_unknowns-unknowns-requires : goal.has_unknowns-unknowns-requires
-has_unknowns-unknowns-requires c =
+pub invariant_of-has_unknowns : goal.invariant_of-has_unknowns
+invariant_of-has_unknowns c =
     let r = parts_in c.args.book.now c.requires.0 c.args.starts.now c.requires.2 _ (omega (arith, c.requires.1)) c.requires.3 _
     c.rule_at-parts.ensures in
-    (r.body.fits, r.head.fits)
+    record { body_inside = r.body.fits; head_inside = r.head.fits }
 
 pub offset_bounds-heads-k : goal.offset_bounds-heads-k
 offset_bounds-heads-k c = omega (arith, rules_few c.args.book.now c.requires.0, c.requires.1)

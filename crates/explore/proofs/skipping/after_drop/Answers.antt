@@ -63,6 +63,12 @@ pub rule_at-parts-requires : goal.rule_at-parts-requires
 rule_at-parts-requires c =
     (start_fits c.args.book.now c.requires.0 c.args.starts.now c.requires.2 _ c.requires.6, c.requires.1)
 
+pub invariant_of-after_covered : goal.invariant_of-after_covered
+invariant_of-after_covered c =
+    let p = c.requires in
+    let r = in_book_lem _ _ _ p.0 p.1 p.2 p.3 _ _ p.6 p.7 _ c.rule_at-parts.ensures in
+    record { body_inside = r.body.fits; head_inside = r.head.fits }
+
 pub after_covered-from-requires : goal.after_covered-from-requires
 after_covered-from-requires c =
     let p = c.requires in

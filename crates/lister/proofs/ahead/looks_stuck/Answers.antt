@@ -16,7 +16,7 @@ overflow_add-passed c = omega (arith, c.args.asked.now.question_in.few)
 pub some_stuck-requires : goal.some_stuck-requires
 some_stuck-requires c =
     let r = c.args.asked.now.rule_in in
-    (r.body.fits, r.head, omega (arith, c.args.asked.now.question_in.atoms.fits))
+    (r.head, omega (arith, c.args.asked.now.question_in.atoms.fits))
 
 pub returns : goal.returns
 returns c = λ told. c.some_stuck.ensures told

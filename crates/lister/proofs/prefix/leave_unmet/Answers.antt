@@ -22,9 +22,6 @@ overflow_add-at c = omega (arith, c.from-n.ensures, c.requires.0.few)
 pub bounds-question-at : goal.bounds-question-at
 bounds-question-at c = omega (arith, c.from-n.ensures, c.requires.0.atoms.fits)
 
-pub is_unmet-unmet-requires : goal.is_unmet-unmet-requires
-is_unmet-unmet-requires c = c.requires.1.head.fits
-
 pub put_atom-requires : goal.put_atom-requires
 put_atom-requires c = (
   left_room _ c.loop-j.invariant.left_in (omega (arith, c.from-n.ensures, c.loop-j.invariant.few, c.requires.0.few)),

@@ -11,7 +11,7 @@ use Rattle.unify.proofs.StuckBytes.{first_within, rest_within, pairs_more}
 use Rattle.unify.proofs.stuck.barred_places.Goals as goal
 
 pub loop-j-init : goal.loop-j-init
-loop-j-init c = (rw add-zero c.requires.4, rw (add-zero, add-zero) (λ x m. m))
+loop-j-init c = (rw add-zero c.requires.2, rw (add-zero, add-zero) (λ x m. m))
 
 pub returns-then-t : goal.returns-then-t
 returns-then-t c = λ e. absurd (true≢false (sym e))
@@ -24,9 +24,6 @@ moved-requires c =
     let a = c.args in
     let u = used_more a.rule.now.book.now a.k c.loop-j.j 6 (omega arith) in_book c.loop-j.invariant.0 c.if-u.false in
     term_constant in_book _ u.0
-
-pub tied_to-requires : goal.tied_to-requires
-tied_to-requires c = (c.requires.0, c.requires.1)
 
 pub returns-then-tied_to : goal.returns-then-tied_to
 returns-then-tied_to c =

@@ -14,9 +14,6 @@ loop-j-init c = rw add-zero (λ x m. m)
 pub returns-then-t : goal.returns-then-t
 returns-then-t c = λ e. absurd (true≢false (sym e))
 
-pub tied_to-requires : goal.tied_to-requires
-tied_to-requires c = (c.requires.0, c.requires.1)
-
 pub returns-then-tied_to : goal.returns-then-tied_to
 returns-then-tied_to c =
     λ e. (

@@ -19,8 +19,8 @@ returns-then-z-u c = λ e. absurd (true≢false (sym e))
 pub returns-then-stands_for-z : goal.returns-then-stands_for-z
 returns-then-stands_for-z c = λ e. absurd (true≢false (sym e))
 
-pub returns-then-in_atoms : goal.returns-then-in_atoms
-returns-then-in_atoms c = λ e. absurd (true≢false (sym e))
+pub returns-then-stands_in : goal.returns-then-stands_in
+returns-then-stands_in c = λ e. absurd (true≢false (sym e))
 
 pub returns : goal.returns
 returns c =
@@ -29,4 +29,4 @@ returns c =
     tied_means a.table.now a.rule.now.book.now a.rule.now.parts a.t a.u c.stands_for-z.result
     c.stands_for-z.ensures (ap term_of (sym c.if-stands_for-z.false) ∙ c.stands_for.ensures)
     (omega arith) (omega arith) c.if-z-u.false
-    (sym c.in_atoms.ensures ∙ c.if-in_atoms.false) (sym c.in_atoms-2.ensures ∙ e)
+    (sym c.stands_in.ensures ∙ c.if-stands_in.false) (sym c.stands_in-2.ensures ∙ e)

@@ -9,4 +9,4 @@ pub returns-then-u-ge128 : goal.returns-then-u-ge128
 returns-then-u-ge128 c = rw (is_con _ c.if-u-ge128.true)
 
 pub returns : goal.returns
-returns c = rw (is_var_lem _ c.if-u-ge128.false) (ap not c.in_atoms.ensures)
+returns c = rw (is_var_lem _ c.if-u-ge128.false) (ap not c.stands_in.ensures)

@@ -15,16 +15,16 @@ returns-then-u-ge128 c =
     let σ = tabled (classes_of a.table.now) in
     sym (allowed_constant 48 rule (term_of a.u) σ (left_in a.left.now) (is_con _ c.if-u-ge128.true))
 
-pub returns-then-in_atoms : goal.returns-then-in_atoms
+pub returns-then-stands_in : goal.returns-then-stands_in
 unfolding rule_in
-returns-then-in_atoms c =
+returns-then-stands_in c =
     let a = c.args in
     let rule = rule_of a.rule.now.book.now a.rule.now.parts in
     let σ = tabled (classes_of a.table.now) in
     sym
     (allowed_frontier 48 rule (term_of a.u) σ (left_in a.left.now)
     (is_var_lem _ c.if-u-ge128.false)
-    c.in_atoms.ensures c.if-in_atoms.true)
+    c.stands_in.ensures c.if-stands_in.true)
 
 pub returns : goal.returns
 unfolding rule_in
@@ -34,5 +34,5 @@ returns c =
     let σ = tabled (classes_of a.table.now) in
     allowed_unknown 48 rule (term_of a.u) σ (left_in a.left.now)
     (is_var_lem _ c.if-u-ge128.false)
-    c.in_atoms.ensures c.if-in_atoms.false c.moved-z.ensures
+    c.stands_in.ensures c.if-stands_in.false c.moved-z.ensures
     c.is_safe.ensures

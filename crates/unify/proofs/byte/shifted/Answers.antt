@@ -1,7 +1,7 @@
--- `unify::validity::shifted` meets its contract: a variable goes up by the shift, a constant stays.
+-- `unify::byte::shifted` meets its contract: a variable goes up by the shift, a constant stays.
 use native.Mathlib.Omega.{arith}
 use Rattle.unify.proofs.ValidTests.{up_variable, up_constant}
-use Rattle.unify.proofs.validity.shifted.Goals as goal
+use Rattle.unify.proofs.byte.shifted.Goals as goal
 
 pub returns-then-u-lt48 : goal.returns-then-u-lt48
 returns-then-u-lt48 c = up_variable _ _ (omega arith)
