@@ -23,7 +23,7 @@ use Rattle.admit.specs.Sets.{SetsFrom, Beside}
 use Rattle.exploration.specs.Held.{Standing}
 use Rattle.exploration.proofs.HeldBytes.{held_total_lem, held_most, held_append}
 use Rattle.admit.proofs.Stand.{held_stands, held_members}
-use Rattle.admit.proofs.Beside.{keep_whole, sets_split}
+use Rattle.admit.proofs.Beside.{keep_whole, sets_split, Lent, lent_part}
 use Rattle.exploration.proofs.Members.{members_count, ending, ending_none, ending_next, members_split}
 use Rattle.exploration.proofs.Members.{later, end_same, members_same}
 
@@ -92,7 +92,7 @@ module _ {W : List ℕ} {e : Extent} (w : Working W e) where
   abbrev pub others : ℕ
   others = e.count - e.front
 
-  pub parts_stand : Standing W first_at e.front × Standing W (ending W first_at e.front) (e.count - e.front)
+  parts_stand : Standing W first_at e.front × Standing W (ending W first_at e.front) (e.count - e.front)
   parts_stand = standing_split W first_at e.front others (subst (Standing W first_at) whole stands_all)
 
   parts_are : held_from W first_at e.count
@@ -100,7 +100,7 @@ module _ {W : List ℕ} {e : Extent} (w : Working W e) where
   parts_are = ap (held_from W first_at) whole ∙ members_split W first_at e.front others
 
   -- the others stand where they stood when the explored ones are through
-  pub others_stand : (P : Question) {X : List ℕ} {a : Moved} → Remain W first_at first_at e.front P X a
+  others_stand : (P : Question) {X : List ℕ} {a : Moved} → Remain W first_at first_at e.front P X a
       → Standing X a.from (e.count - e.front)
   others_stand P {X} {a} k =
       standing_same W X a.from others k.after
@@ -117,17 +117,28 @@ module _ {W : List ℕ} {e : Extent} (w : Working W e) where
         × SetsFrom S (0 + length (held_from W first_at e.front)) (held_from W (ending W first_at e.front) others)
     in_parts = sets_split S _ _ 0 (subst (SetsFrom S 0) parts_are s.sets)
 
-    pub explored_sets : SetsFrom S 0 (held_from W first_at e.front)
-    explored_sets = in_parts.0
+    pub explored_lent : Lent W (take e.front S) first_at e.front
+    explored_lent = lent_part S W 0 e.front first_at (omega (arith, s.size, w.few, w.ahead)) parts_stand.0 in_parts.0
 
-    pub others_sets : (P : Question) {X : List ℕ} {a : Moved} → Remain W first_at first_at e.front P X a
-        → SetsFrom S e.front (held_from X a.from (e.count - e.front))
-    others_sets P k =
-        subst (SetsFrom S e.front) (sym (others_members P k))
-        (subst (λ (i : ℕ). SetsFrom S i (held_from W (ending W first_at e.front) others)) passed in_parts.1)
+    pub others_lent : (P : Question) {X : List ℕ} {a : Moved} → Remain W first_at first_at e.front P X a
+        → Lent X (take (e.count - e.front) (drop e.front S)) a.from (e.count - e.front)
+    others_lent P {X} {a} k =
+        lent_part S X e.front others a.from (omega (arith, s.size, w.few, w.ahead)) (others_stand P k)
+        (subst (SetsFrom S e.front) (sym (others_members P k))
+        (subst (λ (i : ℕ). SetsFrom S i (held_from W (ending W first_at e.front) others)) passed in_parts.1))
       where
         passed : 0 + length (held_from W first_at e.front) ≡ e.front
         passed = omega (arith, members_count W first_at e.front)
+
+    -- what is said of as many members as sets are lent
+    module _ (P : Question) {X : List ℕ} {a : Moved} where
+      pub of_explored : Remain W first_at first_at (length (take e.front S)) P X a → Remain W first_at first_at e.front P X a
+      of_explored k = subst (λ (n : ℕ). Remain W first_at first_at n P X a) explored_lent.long k
+
+      pub of_others : Remain W first_at first_at e.front P X a → {Y : List ℕ} {b : Moved}
+          → Remain X a.from a.to (length (take (e.count - e.front) (drop e.front S))) P Y b
+          → Remain X a.from a.to (e.count - e.front) P Y b
+      of_others k {Y} {b} l = subst (λ (n : ℕ). Remain X a.from a.to n P Y b) (others_lent P k).long l
 
   -- the removal: first the explored ones, then the others
   module _ (P : Question) {X Y : List ℕ} {a b : Moved} (k : Remain W first_at first_at e.front P X a)

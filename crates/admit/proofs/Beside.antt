@@ -5,8 +5,9 @@ use mathlib.Core.Bool.{Bool, true, false, cond}
 use mathlib.Core.List.{List, [], ◌∷◌, ◌++◌}
 use Prim.Native.Nat.{ℕ, suc, ◌+◌, ◌-◌, ◌≤◌, ◌<◌}
 use native.Mathlib.Omega.{arith}
-use lib.ListN.{length, get_or, set, drop, length-append}
-use lib.Seq.{get_or-set_same, get_or-set_other}
+use Rattle.std.proofs.lemmas.List.{get_or_append_left}
+use lib.ListN.{length, get_or, set, take, drop, length-append, length-drop}
+use lib.Seq.{get_or-set_same, get_or-set_other, get_or-take, get_or-drop, length-take-le}
 use Rattle.covering.specs.Lists.{keep}
 use Rattle.covering.specs.Term.{Question}
 use Rattle.covering.specs.Record.{stored, question_of, record_bytes, width}
@@ -14,10 +15,10 @@ use Rattle.covering.proofs.Lists.{keep_few}
 use Rattle.records.specs.Relations.{relations_of}
 use Rattle.reading.specs.Word.{byte}
 use Rattle.exploration.specs.Union.{first_at}
-use Rattle.exploration.specs.Held.{held_bytes, held_from, held_end}
+use Rattle.exploration.specs.Held.{held_bytes, held_from, held_end, Standing}
 use Rattle.exploration.proofs.HeldBytes.{held_last}
 use Rattle.exploration.proofs.Members.{ending, members_step, members_more, members_split, member_width, members_count}
-use Rattle.admit.specs.Sets.{SetsFrom}
+use Rattle.admit.specs.Sets.{SetsFrom, Beside}
 
 -- where all are kept they are the same
 pub keep_whole : {A : Type 0} (p : A → Bool) (l : List A) → length l ≤ length (keep p l) → keep p l ≡ l
@@ -38,12 +39,16 @@ module _ (S : List ℕ) where
   unfolding SetsFrom
   sets_here W at j n i h s = subst (SetsFrom S i) (members_more W at n j h) s
 
-  -- the same members and the same number, by other names
-  pub sets_as : (W : List ℕ) (i j at to n : ℕ) → j ≡ i → to ≡ at → SetsFrom S i (held_from W at n)
-      → SetsFrom S j (held_from W to n)
-  sets_as W i j at to n e f s =
-      subst (λ (k : ℕ). SetsFrom S k (held_from W to n)) (sym e)
-      (subst (λ (k : ℕ). SetsFrom S i (held_from W k n)) (sym f) s)
+  -- the same members, where they stand by another name
+  pub sets_at : (W : List ℕ) (i at to n : ℕ) → to ≡ at → SetsFrom S i (held_from W at n) → SetsFrom S i (held_from W to n)
+  sets_at W i at to n e s = subst (λ (k : ℕ). SetsFrom S i (held_from W k n)) (sym e) s
+
+  -- whatever sets come after them
+  pub sets_longer : (U : List Question) (i : ℕ) (R : List ℕ) → i + length U ≤ length S → SetsFrom S i U → SetsFrom (S ++ R) i U
+  unfolding SetsFrom
+  sets_longer [] i R h s = tt
+  sets_longer (M ∷ U) i R h s =
+      (get_or_append_left S R 0 i (omega arith) ∙ s.0, sets_longer U (i + 1) R (omega arith) s.1)
 
   -- those of two parts
   pub sets_split : (A B : List Question) (i : ℕ) → SetsFrom S i (A ++ B) → SetsFrom S i A × SetsFrom S (i + length A) B
@@ -74,6 +79,50 @@ module _ (S : List ℕ) where
     where
       apart : i ≡ k → ⊥
       apart d = omega (arith, d, e)
+
+-- the sets of members that stand in a part, in that part alone
+sets_part : (S : List ℕ) (i k j : ℕ) (U : List Question) → j + length U ≤ k → SetsFrom S (i + j) U
+    → SetsFrom (take k (drop i S)) j U
+unfolding SetsFrom
+sets_part S i k j [] h s = tt
+sets_part S i k j (M ∷ U) h s = (
+  get_or-take k (drop i S) j 0 (omega arith) ∙ get_or-drop i S j 0 ∙ s.0,
+  sets_part S i k (j + 1) U (omega arith) (subst (λ (n : ℕ). SetsFrom S n U) one_more s.1),
+)
+  where
+    one_more : i + j + 1 ≡ i + (j + 1)
+    one_more = omega arith
+
+-- n sets from the i-th on, for the n members from `at` on
+sets_of : (S W : List ℕ) (i n at : ℕ) → i + n ≤ length S → SetsFrom S i (held_from W at n)
+    → (length (take n (drop i S)) ≡ n) × SetsFrom (take n (drop i S)) 0 (held_from W at n)
+sets_of S W i n at h s = (
+  length-take-le n (drop i S) (omega (arith, length-drop i S)),
+  sets_part S i n 0 (held_from W at n) (omega (arith, members_count W at n)) (subst (λ (k : ℕ). SetsFrom S k (held_from W at n)) none s),
+)
+  where
+    none : i ≡ i + 0
+    none = omega arith
+
+-- n members that stand in W from `at` on, with the list F of their sets
+pub record Lent (W F : List ℕ) (at n : ℕ) : Type 0 where
+  pub long : length F ≡ n
+  pub standing : Standing W at (length F)
+  pub sets : SetsFrom F 0 (held_from W at (length F))
+
+pub lent_part : (S W : List ℕ) (i n at : ℕ) → i + n ≤ length S → Standing W at n → SetsFrom S i (held_from W at n)
+    → Lent W (take n (drop i S)) at n
+lent_part S W i n at h s t =
+    let p = sets_of S W i n at h t in
+    record {
+      long = p.0;
+      standing = subst (Standing W at) (sym p.0) s;
+      sets = subst (λ (k : ℕ). SetsFrom (take n (drop i S)) 0 (held_from W at k)) (sym p.0) p.1;
+    }
+
+-- all of them
+pub lent_all : {S W : List ℕ} {n : ℕ} → n ≤ 64 → Standing W first_at n → Beside S W n → Lent W (take n S) first_at n
+lent_all {S} {W} {n} h s b = lent_part S W 0 n first_at (omega (arith, b.size)) s b.sets
 
 -- the i-th member of the array, which stands where those before it end
 module _ (W : List ℕ) (at i : ℕ) (is : at ≡ ending W first_at i) where

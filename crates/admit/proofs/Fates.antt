@@ -1,13 +1,12 @@
 -- What becomes of one rewriting, by what the code finds of it (`specs/WorkingArray`, `FateIs`). Assumes nothing.
-use mathlib.Core.Path.{◌≡◌, refl, sym, ◌∙◌, ap, ap₂, subst}
-use mathlib.Core.Bool.{not}
+use mathlib.Core.Path.{◌≡◌, refl, sym, ◌∙◌, ap, subst}
+use mathlib.Core.Bool.{Bool, true, false, not}
 use mathlib.Core.Logic.{◌⊎◌, inl, inr}
 use mathlib.Core.List.Memᴰ
 use mathlib.Core.List.{List, [], ◌∷◌, ◌++◌}
 use Prim.Native.Nat.{ℕ, ◌+◌, ◌≤◌, ◌<◌}
 use native.Mathlib.Omega.{arith}
-use borrow.Author.Tests.{le-ltb, lt-ltb}
-use lib.Dec.{T, ltb}
+use lib.Dec.{T}
 use lib.ListN.{length, take, drop, set, length-set, length-append}
 use Rattle.covering.specs.Lists.{◌∈◌}
 use Rattle.covering.specs.Term.{Question}
@@ -15,12 +14,14 @@ use Rattle.covering.specs.Search.{covers}
 use Rattle.covering.specs.Record.{stored, record_bytes, Fits}
 use Rattle.covering.proofs.Tests.{true→T, false→T}
 use Rattle.admit.specs.declared.Extent.{Extent}
-use Rattle.admit.specs.declared.Fate.TheVariants.{Dropped, Appended, Refused}
+use Rattle.admit.specs.declared.Fate.TheVariants.{Dropped, Appended}
+use Rattle.reading.specs.declared.Reason.TheVariants.{TooLong, NoRoom}
+use Rattle.std.specs.Prelude.{Ok, Err}
 use Rattle.exploration.specs.Run.{State, limits_for, too_long, no_room, covered, appended, admitted, remaining}
 use Rattle.exploration.specs.Steps.{New}
 use Rattle.exploration.specs.Union.{first_at, output_size}
 use Rattle.exploration.specs.Held.{held_bytes, held_from}
-use Rattle.admit.specs.WorkingArray.{Working, before_covering, rest, FateIs, HoldsState, state_in}
+use Rattle.admit.specs.WorkingArray.{Working, rest, FateIs, HoldsState, state_in}
 use Rattle.admit.specs.Sets.{SetsFrom, Beside}
 use Rattle.records.specs.Relations.{relations_of}
 use Rattle.exploration.proofs.Admits.{was_covered, was_long, was_full, was_admitted, admit_is}
@@ -28,30 +29,24 @@ use Rattle.exploration.proofs.Members.{members_count}
 use Rattle.admit.proofs.Array.{state_held, held_working, len_most}
 use Rattle.exploration.proofs.HeldBytes.{held_total_lem, held_most, held_last}
 use Rattle.admit.proofs.Holding.{held_appended}
-use Rattle.admit.proofs.Finding.{covering_found}
 use Rattle.admit.proofs.Beside.{sets_more}
 
 module _ (answers : ℕ) (one : answers ≤ 1) {W : List ℕ} {e : Extent} (w : Working W e) (P : Question) where
   abbrev U : List Question
   U = held_from W first_at e.count
 
-  -- the search for a covering member
-  covered_is : (n : ℕ) → n ≡ before_covering covers P (held_from W first_at e.count)
-      → covered covers P U ≡ ltb n e.count
-  covered_is n h = covering_found covers P U ∙ ap₂ ltb (sym h) (members_count W first_at e.count)
-
-  pub fate_dropped : (n : ℕ) → n ≡ before_covering covers P (held_from W first_at e.count) → n < e.count
-      → FateIs (limits_for answers) W e P W Dropped
-  fate_dropped n h l = (
-    admit_is covers (limits_for answers) (was_covered (true→T (covered covers P U) (covered_is n h ∙ lt-ltb n e.count l))),
+  pub fate_dropped : {b : Bool} → b ≡ covered covers P (held_from W first_at e.count) → b ≡ true
+      → FateIs (limits_for answers) W e P W (Ok Dropped)
+  fate_dropped h d = (
+    admit_is covers (limits_for answers) (was_covered (true→T (covered covers P U) (sym h ∙ d))),
     refl,
   )
 
-  module _ (n : ℕ) (h : n ≡ before_covering covers P (held_from W first_at e.count)) (l : e.count ≤ n) where
+  module _ {b : Bool} (h : b ≡ covered covers P (held_from W first_at e.count)) (d : b ≡ false) where
     not_covered : T (not (covered covers P U))
-    not_covered = false→T (covered covers P U) (covered_is n h ∙ le-ltb n e.count l)
+    not_covered = false→T (covered covers P U) (sym h ∙ d)
 
-    pub fate_long : 8 + answers < length P → FateIs (limits_for answers) W e P W (Refused 8)
+    pub fate_long : 8 + answers < length P → FateIs (limits_for answers) W e P W (Err TooLong)
     fate_long long = (too_long, admit_is covers (limits_for answers) (was_long not_covered long), refl)
 
     module _ (short : length P ≤ 8 + answers) {X : List ℕ} {f : Extent} (x : Working X f)
@@ -64,7 +59,7 @@ module _ (answers : ℕ) (one : answers ≤ 1) {W : List ℕ} {e : Extent} (w : 
         left =
             sym (members_count X first_at f.count) ∙ ap (λ (s : State). length s.members) kept
 
-        pub fate_full : 64 ≤ f.count → FateIs (limits_for answers) W e P X (Refused 9)
+        pub fate_full : 64 ≤ f.count → FateIs (limits_for answers) W e P X (Err NoRoom)
         fate_full full = (no_room, admit_is covers (limits_for answers) (was_full new (omega (arith, left))), refl)
 
         module _ (fits : Fits stored P) (room : f.count < 64) where
@@ -125,7 +120,7 @@ module _ (answers : ℕ) (one : answers ≤ 1) {W : List ℕ} {e : Extent} (w : 
               all_fit = in_longer (Fits stored) x.fits fits
 
               pub fate_appended : FateIs (limits_for answers) W e P Y
-                  (Appended (record { len = r; count = f.count + 1; front = f.front }))
+                  (Ok (Appended (record { len = r; count = f.count + 1; front = f.front })))
               unfolding next
               fate_appended = (
                 admit_is covers (limits_for answers) (was_admitted (record { new = new; fits = omega (arith, left) }))

@@ -1,6 +1,7 @@
 -- How the code holds a run's state: a working array that is the union as it will be written, its header yet to be
 -- filled. The contracts of the exploration's own functions are said with it; that of the whole needs only `Answers`.
-use Rattle.std.specs.Prelude.{◌≡◌, cond, List, [], ◌∷◌, ◌++◌, ℕ, suc, ◌+◌, ◌≤◌, length, take, drop}
+use Rattle.std.specs.Prelude.{◌≡◌, cond, List, [], ◌∷◌, ◌++◌, ℕ, suc, ◌+◌, ◌≤◌, ltb, length, take, drop}
+use Rattle.std.specs.Prelude.{Option as Maybe, Some, None, Result, Ok, Err}
 use Rattle.std.proofs.Math.Option.{Option}
 use Rattle.covering.specs.Lists.{◌∈◌, first_of}
 use Rattle.covering.specs.Term.{Question}
@@ -9,7 +10,9 @@ use Rattle.covering.specs.Record.{stored, Fits}
 use Rattle.admit.specs.declared.Extent.{Extent}
 use Rattle.admit.specs.declared.Moved.{Moved}
 use Rattle.admit.specs.declared.Fate.{Fate}
-use Rattle.admit.specs.declared.Fate.TheVariants.{Dropped, Appended, Refused}
+use Rattle.admit.specs.declared.Fate.TheVariants.{Dropped, Appended}
+use Rattle.reading.specs.declared.Reason.{Reason}
+use Rattle.reading.specs.Told.{number_of}
 use Rattle.exploration.specs.Run.{State, Test, Limits, Why, refusal_number, dropped, admitted, stopped, admit}
 use Rattle.exploration.specs.Run.{remaining}
 use Rattle.exploration.specs.Union.{first_at, output_size}
@@ -42,6 +45,10 @@ unfoldable pub before_covering : Test → Question → List Question → ℕ
 before_covering cov P [] = 0
 before_covering cov P (M ∷ U) = let r = suc (before_covering cov P U) in cond (cov M P) 0 r
 
+-- the number of the first one that covers P, if one does
+abbrev pub first_covering : Test → Question → List Question → Maybe ℕ
+first_covering cov P U = let n = before_covering cov P U in cond (ltb n (length U)) (Some n) None
+
 -- the map by which it covers P, none where none does
 unfoldable pub covered_by : Question → List Question → Option Part
 covered_by P U = first_of (λ M. first_map M P) U
@@ -67,7 +74,8 @@ rest s P =
 
 -- What becomes of the rewriting P, and of the working array W, by these limits: X is the array afterwards. Where the run
 -- is refused the array does not count any more.
-abbrev pub FateIs : Limits → List ℕ → Extent → Question → List ℕ → Fate → Type 0
-FateIs lim W e P X Dropped = (admit covers lim (state_in W e) P ≡ dropped) × (X ≡ W)
-FateIs lim W e P X (Appended f) = (admit covers lim (state_in W e) P ≡ admitted (state_in X f)) × Working X f
-FateIs lim W e P X (Refused n) = (w : Why) × (admit covers lim (state_in W e) P ≡ stopped w) × (n ≡ refusal_number w)
+abbrev pub FateIs : Limits → List ℕ → Extent → Question → List ℕ → Result Fate Reason → Type 0
+FateIs lim W e P X (Ok Dropped) = (admit covers lim (state_in W e) P ≡ dropped) × (X ≡ W)
+FateIs lim W e P X (Ok (Appended f)) = (admit covers lim (state_in W e) P ≡ admitted (state_in X f)) × Working X f
+FateIs lim W e P X (Err r) =
+    (w : Why) × (admit covers lim (state_in W e) P ≡ stopped w) × (number_of r ≡ refusal_number w)

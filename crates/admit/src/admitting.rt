@@ -11,19 +11,20 @@ use super::working::append;
 use super::{Extent, Fate, ROOM};
 use cover::VARIABLES;
 use covering::RECORD;
+use reading::Reason;
 
 // "More than 8 atoms".
 const ATOMS: u8 = 8;
 
-// Drops the rewriting if a member covers it; else refuses with 8 where it has more than `answers` answer records and 8
-// atoms, removes what it covers, refuses with 9, or appends it, and its set of relations beside it.
+// Drops the rewriting if a member covers it; else refuses it as too long where it has more than `answers` answer records
+// and 8 atoms, removes what it covers, refuses where there is no room, or appends it, and its set of relations beside it.
 pub fn admit(
     work: &mut [u8],
     sets: &mut [u64; ROOM],
     filled: Extent,
     rewriting: &[u8; RECORD],
     answers: u8,
-) -> Fate
+) -> Result<Fate, Reason>
     requires { Working work.old filled
         × SoundRecord stored rewriting.now
         × (answers ≤ 1)
@@ -39,22 +40,23 @@ pub fn admit(
 {
     let there = records::relations(rewriting);
     let mut map = [255u8; VARIABLES];
-    if member_covering(work, sets, filled.count, rewriting, there, &mut map) < filled.count {
-        return Fate::Dropped;
+    let covering = member_covering(work, &sets[..filled.count], rewriting, there, &mut map);
+    if covering.is_some() {
+        return Ok(Fate::Dropped);
     }
     if ATOMS + answers < rewriting[0] {
-        return Fate::Refused(8);
+        return Err(Reason::TooLong);
     }
     let kept = remove_covered(work, sets, filled, rewriting, there);
     let count = kept.count;
     if ROOM <= count {
-        return Fate::Refused(9);
+        return Err(Reason::NoRoom);
     }
     let len = append(work, kept.len, rewriting);
     sets[count] = there;
-    Fate::Appended(Extent {
-        len: len,
+    Ok(Fate::Appended(Extent {
+        len,
         count: count + 1,
         front: kept.front,
-    })
+    }))
 }

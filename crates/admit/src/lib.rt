@@ -36,11 +36,10 @@ pub struct Moved {
     pub kept: usize,
 }
 
-// What becomes of one rewriting: a member covers it; it is appended, and the array is filled so far; or the run is
-// refused with that number.
+// What becomes of one rewriting that does not end the run: a member covers it; or it is appended, and the array is filled
+// so far.
 #[derive(Clone, Copy)]
 pub enum Fate {
     Dropped,
     Appended(Extent),
-    Refused(u8),
 }

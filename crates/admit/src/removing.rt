@@ -1,5 +1,5 @@
 // Removing every member that a rewriting covers.
-ghost use Rattle.std.specs.Prelude.{◌≡◌, ◌+◌, ◌≤◌};
+ghost use Rattle.std.specs.Prelude.{◌≡◌, ◌≤◌, length};
 ghost use Rattle.covering.specs.Record.{stored, question_of, SoundRecord};
 ghost use Rattle.covering.specs.Search.{covers};
 ghost use Rattle.records.specs.Relations.{relations_of};
@@ -27,47 +27,43 @@ fn covers_member(rewriting: &[u8; RECORD], there: u64, set: u64, member: &[u8]) 
     cover::covers_sound(rewriting, member)
 }
 
-// Keeps those of the n members from `from` on, `passed` in number, that the rewriting does not cover, one after the
+// Keeps those of the members from `from` on, as many as the sets, that the rewriting does not cover, one after the
 // other from `to` on. Each is moved down at most once, however many are removed.
 fn keep_uncovered(
     work: &mut [u8],
-    sets: &[u64; ROOM],
+    sets: &[u64],
     from: usize,
     to: usize,
-    passed: usize,
-    n: usize,
     rewriting: &[u8; RECORD],
     there: u64,
 ) -> Moved
     requires { (to ≤ from)
-        × (passed + n ≤ 64)
-        × Standing work.old from n
+        × (length sets.now ≤ 64)
+        × Standing work.old from (length sets.now)
         × SoundRecord stored rewriting.now
-        × SetsFrom sets.now passed (held_from work.old from n)
+        × SetsFrom sets.now 0 (held_from work.old from (length sets.now))
         × (there ≡ relations_of (question_of stored rewriting.now)) }
     ensures { Remain
-        work.old from to n
+        work.old from to (length sets.now)
         (question_of stored rewriting.now)
         work.new result }
 {
     let mut at = from;
     let mut end = to;
     let mut kept = 0;
-    let mut i = 0;
-    while i < n {
+    for set in sets {
         let width = records::width(work[at]);
-        if !covers_member(rewriting, there, sets[passed + i], &work[at..]) {
+        if !covers_member(rewriting, there, *set, &work[at..]) {
             move_down(work, at, end, width);
             end += width;
             kept += 1;
         }
         at += width;
-        i += 1;
     }
     Moved {
         from: at,
         to: end,
-        kept: kept,
+        kept,
     }
 }
 
@@ -89,15 +85,12 @@ pub fn remove_covered(
         × Beside sets.new work.new result.count }
 {
     let front = filled.front;
-    let left = filled.count - front;
-    let explored = keep_uncovered(work, sets, FIRST, FIRST, 0, front, rewriting, there);
+    let explored = keep_uncovered(work, &sets[..front], FIRST, FIRST, rewriting, there);
     let others = keep_uncovered(
         work,
-        sets,
+        &sets[front..filled.count],
         explored.from,
         explored.to,
-        front,
-        left,
         rewriting,
         there,
     );
@@ -105,7 +98,7 @@ pub fn remove_covered(
     renew(work, sets, filled.count, count);
     Extent {
         len: others.to,
-        count: count,
+        count,
         front: explored.kept,
     }
 }

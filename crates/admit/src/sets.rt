@@ -18,10 +18,8 @@ pub fn renew(work: &[u8], sets: &mut [u64; ROOM], were: usize, count: usize)
         return;
     }
     let mut at = FIRST;
-    let mut i = 0;
-    while i < count {
-        sets[i] = records::relations(&work[at..]);
+    for set in &mut sets[..count] {
+        *set = records::relations(&work[at..]);
         at += records::width(work[at]);
-        i += 1;
     }
 }

@@ -12,28 +12,18 @@ pub fn append(work: &mut [u8], len: usize, member: &[u8]) -> usize
         ++ (record_bytes stored (question_of stored member.now) ++ drop result work.old)) }
 {
     let width = records::width(member[0]);
-    let mut i = 0;
-    while i < width {
-        work[len + i] = member[i];
-        i += 1;
-    }
+    work[len..len + width].copy_from_slice(&member[..width]);
     len + width
 }
 
-// Moves the width bytes at `from` down to `to`, if they do not stand there already. Each is read before it is written
-// over, since it goes no higher.
+// Moves the width bytes at `from` down to `to`, if they do not stand there already.
 pub fn move_down(work: &mut [u8], from: usize, to: usize, width: usize)
     requires { (to ≤ from) × (from + width ≤ length work.old) }
     ensures { work.new
         ≡ take to work.old
         ++ (take width (drop from work.old) ++ drop (to + width) work.old) }
 {
-    if to == from {
-        return;
-    }
-    let mut i = 0;
-    while i < width {
-        work[to + i] = work[from + i];
-        i += 1;
+    if to < from {
+        work.copy_within(from..from + width, to);
     }
 }

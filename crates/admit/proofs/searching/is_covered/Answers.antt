@@ -1,17 +1,16 @@
--- `admit::searching::is_covered` meets its contract: a member covers the question where the search ends before the last.
-use mathlib.Core.Path.{sym, ap₂, ◌∙◌}
-use lib.Dec.{ltb}
-use Rattle.covering.specs.Search.{covers}
+-- `admit::searching::is_covered` meets its contract: a member covers the question where the number of one is found.
+use mathlib.Core.Path.{refl}
 use Rattle.covering.specs.Record.{stored, question_of}
-use Rattle.exploration.specs.Union.{first_at}
-use Rattle.exploration.specs.Held.{held_from}
-use Rattle.exploration.proofs.Members.{members_count}
-use Rattle.admit.proofs.Finding.{covering_found}
+use Rattle.admit.proofs.Beside.{lent_all}
+use Rattle.admit.proofs.Finding.{covered_is}
 use Rattle.admit.proofs.searching.is_covered.Goals as goal
+
+pub member_covering-requires : goal.member_covering-requires
+member_covering-requires c =
+    let l = lent_all c.requires.0 c.requires.1 c.requires.3 in
+    (l.standing, c.requires.2, refl, l.sets, c.relations-there.ensures)
 
 pub returns : goal.returns
 returns c =
-    let a = c.args in
-    sym
-    (covering_found covers (question_of stored a.question.now) (held_from a.work.now first_at a.count)
-    ∙ ap₂ ltb (sym c.member_covering.ensures.0) (members_count a.work.now first_at a.count))
+    let l = lent_all c.requires.0 c.requires.1 c.requires.3 in
+    covered_is c.args.work.now _ (question_of stored c.args.question.now) l.long c.member_covering.ensures.0 c.is_some.ensures
