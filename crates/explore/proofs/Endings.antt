@@ -25,7 +25,9 @@ use Rattle.exploration.proofs.Members.{members_count}
 use Rattle.exploration.proofs.OfBook.{written_member, whole}
 use Rattle.writing.specs.Uncounted.{uncounted_bytes, four_words}
 use Rattle.admit.specs.declared.Extent.{Extent}
-use Rattle.explore.specs.declared.Ran.TheVariants.{Complete, Refused}
+use Rattle.std.specs.Prelude.{Ok, Err}
+use Rattle.reading.specs.declared.Refused.{Refused}
+use Rattle.reading.specs.Told.{number_of}
 use Rattle.explore.specs.Exploring.{RanIs}
 
 module _ (book wide out : List ℕ) (roomy : output_size ≤ length out) (sound : SoundBook book)
@@ -35,12 +37,13 @@ module _ (book wide out : List ℕ) (roomy : output_size ≤ length out) (sound 
     pub outcome_same : outcome_of wide ≡ outcome_of book
     outcome_same = ap (λ (b : Book). run b.rules b.allowed b.question) same
 
-    pub returns_stopped : (X : List ℕ) (k p : ℕ) → RanIs (outcome_of wide) X (Refused k p) → Answers book out k p out
-    returns_stopped X k p x =
-        subst (λ (n : ℕ). Answers book out n p out) (sym x.2)
+    pub returns_stopped : (X : List ℕ) (r : Refused) → RanIs (outcome_of wide) X (Err r)
+        → Answers book out (number_of r.reason) r.place out
+    returns_stopped X r x =
+        subst (λ (n : ℕ). Answers book out n r.place out) (sym x.2)
         (returns_refused book out roomy sound (sym outcome_same ∙ x.1))
 
-    module _ (X : List ℕ) (f : Extent) (n : ℕ) (x : RanIs (outcome_of wide) X (Complete f n)) where
+    module _ (X : List ℕ) (f : Extent) (n : ℕ) (x : RanIs (outcome_of wide) X (Ok (f, n))) where
       abbrev U : List Question
       U = held_from X first_at f.count
 

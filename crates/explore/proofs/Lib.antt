@@ -8,6 +8,7 @@ pub mod Coming
 -- choices passed over; one member explored; the run
 pub mod PassedOver
 pub mod Onward
+pub mod Turn
 pub mod Running
 -- what the whole run shows at its returns
 pub mod Endings

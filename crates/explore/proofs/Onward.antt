@@ -12,8 +12,9 @@ use Rattle.covering.specs.Search.{covers}
 use Rattle.covering.specs.Rule.{Rule}
 use Rattle.admit.specs.declared.Extent.{Extent}
 use Rattle.explore.specs.declared.Taken.{Taken}
-use Rattle.admit.specs.declared.Fate.TheVariants.{Dropped, Appended, Refused}
-use Rattle.explore.specs.declared.Explored.TheVariants.{Passed, Refused as NotExplored}
+use Rattle.admit.specs.declared.Fate.TheVariants.{Dropped, Appended}
+use Rattle.std.specs.Prelude.{Ok, Err}
+use Rattle.reading.specs.declared.Reason.{Reason}
 use Rattle.exploration.specs.Run.{Limits, through, all_rewritings}
 use Rattle.admit.specs.WorkingArray.{Working, FateIs, state_in}
 use Rattle.explore.specs.Exploring.{ExploredIs}
@@ -47,7 +48,7 @@ module _ (lim : Limits) (rules : List Rule) (M : Question) (W : List ℕ) (e : E
 
   module _ {X : List ℕ} {f : Extent} {k n : ℕ} (o : Onward lim rules M W e X f k n) where
     -- none is left
-    pub onward_done : coming M n (drop k rules) ≡ [] → ExploredIs lim rules M W e X (Passed f)
+    pub onward_done : coming M n (drop k rules) ≡ [] → ExploredIs lim rules M W e X (Ok f)
     onward_done h = (
       o.outcome
           ∙ ap (λ (l : List Question). through covers lim M l (state_in X f)) h
@@ -78,7 +79,7 @@ module _ (lim : Limits) (rules : List Rule) (M : Question) (W : List ℕ) (e : E
           o.among N (subst (λ (l : List Question). N ∈ l) (sym g.coming_is) (Memᴰ.tail m))
 
       -- it was dropped
-      pub onward_dropped : (Y : List ℕ) → FateIs lim X f g.rewriting Y Dropped
+      pub onward_dropped : (Y : List ℕ) → FateIs lim X f g.rewriting Y (Ok Dropped)
           → Onward lim rules M W e Y f t.rule (t.choice + 1)
       onward_dropped Y h =
           subst (λ (Z : List ℕ). Onward lim rules M W e Z f t.rule (t.choice + 1)) (sym h.1)
@@ -112,17 +113,17 @@ module _ (lim : Limits) (rules : List Rule) (M : Question) (W : List ℕ) (e : E
       fewer_passed {m} l =
           omega (arith, fewer, coming_fewer M (t.choice + 1) m (drop t.rule rules) (omega arith))
 
-      pub onward_refused : (number : ℕ) → FateIs lim X f g.rewriting X (Refused number)
-          → ExploredIs lim rules M W e X (NotExplored number)
-      onward_refused number h = (
+      pub onward_refused : (Y : List ℕ) (r : Reason) → FateIs lim X f g.rewriting Y (Err r)
+          → ExploredIs lim rules M W e Y (Err r)
+      onward_refused Y r h = (
         h.0,
         outcome_is ∙ turn_refused covers lim M P Ps (state_in X f) h.1,
         h.2,
       )
 
       -- it was appended: the member is removed, or its exploration goes on
-      module _ (Y : List ℕ) (d : Extent) (h : FateIs lim X f g.rewriting Y (Appended d)) where
-        pub onward_stopped : covers g.rewriting M ≡ true → ExploredIs lim rules M W e Y (Passed d)
+      module _ (Y : List ℕ) (d : Extent) (h : FateIs lim X f g.rewriting Y (Ok (Appended d))) where
+        pub onward_stopped : covers g.rewriting M ≡ true → ExploredIs lim rules M W e Y (Ok d)
         onward_stopped c = (outcome_is ∙ turn_stopped covers lim M P Ps (state_in X f) h.0 c, h.1)
 
         pub onward_appended : covers g.rewriting M ≡ false → Onward lim rules M W e Y d t.rule (t.choice + 1)

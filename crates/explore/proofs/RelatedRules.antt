@@ -1,7 +1,6 @@
 -- Laws of the sets of the rules' head relations (`specs/Related`): that what is made of a rule's head is its set, and that
 -- a rule whose set has nothing in common with the member's has no rewriting. Assumes nothing.
 use mathlib.Core.Path.{◌≡◌, refl, sym, ap, ◌∙◌, subst}
-use mathlib.Core.Bool.{Bool, true, false, cond}
 use mathlib.Core.Logic.{◌⊎◌, inl, inr}
 use mathlib.Core.List.{List}
 use mathlib.Core.Option.{Option, none, some}
@@ -10,7 +9,7 @@ use native.Mathlib.Omega.{arith}
 use lib.Bits.{bit_and, and_comm}
 use lib.ListN.{length, get_or, set}
 use lib.Seq.{get_or-set_same, get_or-set_other}
-use Rattle.std.specs.Prelude.{Some, None, IfSome}
+use Rattle.std.specs.Prelude.{None, IfSome}
 use Rattle.std.specs.Prelude.{Option as Answer}
 use Rattle.covering.specs.Term.{Question}
 use Rattle.covering.specs.Rule.{Rule}

@@ -20,9 +20,9 @@ use Rattle.reading.specs.Book.{book_of, layout_of}
 use Rattle.reading.specs.Verdict.{SoundBook}
 use Rattle.reading.proofs.Reading.{book_allowed}
 use Rattle.admit.specs.declared.Extent.{Extent}
-use Rattle.explore.specs.declared.Explored.{Explored}
-use Rattle.explore.specs.declared.Explored.TheVariants.{Passed, Refused}
-use Rattle.explore.specs.declared.Ran.TheVariants.{Complete, Refused as NotRun}
+use Rattle.std.specs.Prelude.{Result, Ok, Err}
+use Rattle.reading.specs.declared.Reason.{Reason}
+use Rattle.reading.specs.declared.Reason.TheVariants.{NoneLeft}
 use Rattle.exploration.specs.Run.{State, none_left, Pass, Outcome, refused, on_pass, oldest}
 use Rattle.exploration.specs.Run.{taken_up, start, through, exploring, all_rewritings}
 use Rattle.exploration.specs.Steps.{between, within, Reaches, begins, takes_up}
@@ -172,7 +172,7 @@ module _ (B : List ℕ) where
     all_members : length s.members ≡ f.count
     all_members = members_count X first_at f.count
 
-    pub outcome_complete : (book_of B).allowed ≤ 1000 → f.count ≤ f.front → RanIs (outcome_of B) X (Complete f taken)
+    pub outcome_complete : (book_of B).allowed ≤ 1000 → f.count ≤ f.front → RanIs (outcome_of B) X (Ok (f, taken))
     outcome_complete most h = (
       r.outcome
           ∙ turn_complete covers (limits_of B) steps taken s (allowed - taken)
@@ -181,7 +181,7 @@ module _ (B : List ℕ) where
       omega (arith, r.few, most),
     )
 
-    pub outcome_ten : f.front < f.count → taken ≡ allowed → RanIs (outcome_of B) X (NotRun 10 taken)
+    pub outcome_ten : f.front < f.count → taken ≡ allowed → RanIs (outcome_of B) X (Err (record { reason = NoneLeft; place = taken }))
     outcome_ten h e =
         let m = head_some f.front s.members (omega (arith, all_members)) in (
           none_left,
@@ -265,39 +265,42 @@ module _ (B : List ℕ) where
         one_taken = omega arith
 
         -- what its exploration gave
-        module _ (R : List ℕ) (is : R ≡ held_in stored record_room M) (Y : List ℕ) (v : Explored)
-            (x : ExploredIs (limits_of B) (book_of B).rules (question_of stored R) X
-            (record { len = f.len; count = f.count; front = f.front + 1 }) Y v)
-          where
-            gave : (u : Explored) → v ≡ u → ExploredIs (limits_of B) (book_of B).rules M X up Y u
-            gave u e =
-                subst (ExploredIs (limits_of B) (book_of B).rules M X up Y) e
-                (subst (λ (A : Question). ExploredIs (limits_of B) (book_of B).rules A X up Y v) (question_is R is) x)
+        module _ (R : List ℕ) (is : R ≡ held_in stored record_room M) (Y : List ℕ) where
+          gave : (u : Result Extent Reason) → ExploredIs (limits_of B) (book_of B).rules (question_of stored R) X up Y u
+              → ExploredIs (limits_of B) (book_of B).rules M X up Y u
+          gave u x =
+              subst (λ (A : Question). ExploredIs (limits_of B) (book_of B).rules A X up Y u) (question_is R is) x
 
-            after : Pass → Outcome
-            after p =
-                on_pass p (λ t. exploring covers (limits_of B) steps (allowed - suc taken) (suc taken) t)
-                (λ w. refused w (suc taken))
+          after : Pass → Outcome
+          after p =
+              on_pass p (λ t. exploring covers (limits_of B) steps (allowed - suc taken) (suc taken) t)
+              (λ w. refused w (suc taken))
 
-            pub running_next : (d : Extent) → v ≡ Passed d → Running Y d (taken + 1)
-            unfolding after
-            running_next d e =
-                let y = gave (Passed d) e in
-                record {
-                  working = y.1;
-                  few = omega arith;
-                  comes =
-                      subst (λ (n : ℕ). Comes (state_in Y d) n) one_taken
-                      (through_reaches covers (limits_of B) steps allowed (joined (book_of B).question) M (steps M) (state_in X up)
-                      (state_in Y d) (suc taken) comes_within y.0);
-                  outcome =
-                      turn
-                      ∙ ap after y.0
-                      ∙ ap (λ (n : ℕ). exploring covers (limits_of B) steps (allowed - n) n (state_in Y d)) one_taken;
-                }
+          pub running_next : (d : Extent)
+              → ExploredIs (limits_of B) (book_of B).rules (question_of stored R) X
+              (record { len = f.len; count = f.count; front = f.front + 1 }) Y (Ok d)
+              → Running Y d (taken + 1)
+          unfolding after
+          running_next d x =
+              let y = gave (Ok d) x in
+              record {
+                working = y.1;
+                few = omega arith;
+                comes =
+                    subst (λ (n : ℕ). Comes (state_in Y d) n) one_taken
+                    (through_reaches covers (limits_of B) steps allowed (joined (book_of B).question) M (steps M) (state_in X up)
+                    (state_in Y d) (suc taken) comes_within y.0);
+                outcome =
+                    turn
+                    ∙ ap after y.0
+                    ∙ ap (λ (n : ℕ). exploring covers (limits_of B) steps (allowed - n) n (state_in Y d)) one_taken;
+              }
 
-            pub outcome_refused : (k : ℕ) → v ≡ Refused k → RanIs (outcome_of B) Y (NotRun k (taken + 1))
-            unfolding after
-            outcome_refused k e =
-                let y = gave (Refused k) e in
-                (y.0, turn ∙ ap after y.1 ∙ ap (refused y.0) one_taken, y.2)
+          pub outcome_refused : (k : Reason)
+              → ExploredIs (limits_of B) (book_of B).rules (question_of stored R) X
+              (record { len = f.len; count = f.count; front = f.front + 1 }) Y (Err k)
+              → RanIs (outcome_of B) Y (Err (record { reason = k; place = taken + 1 }))
+          unfolding after
+          outcome_refused k x =
+              let y = gave (Err k) x in
+              (y.0, turn ∙ ap after y.1 ∙ ap (refused y.0) one_taken, y.2)

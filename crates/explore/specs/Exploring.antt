@@ -1,5 +1,5 @@
 -- What becomes of one member's exploration and of the run, as the code holds it.
-use Rattle.std.specs.Prelude.{◌≡◌, List, length, ℕ, ◌≤◌}
+use Rattle.std.specs.Prelude.{◌≡◌, List, length, ℕ, ◌≤◌, Result, Ok, Err}
 use Rattle.std.proofs.Math.Option.{some}
 use Rattle.covering.specs.Term.{Question}
 use Rattle.covering.specs.Search.{covers}
@@ -9,10 +9,9 @@ use Rattle.covering.specs.Rule.{Rule}
 use Rattle.covering.specs.Asking.{Shaped}
 use Rattle.reading.specs.Book.{book_of, layout_of}
 use Rattle.admit.specs.declared.Extent.{Extent}
-use Rattle.explore.specs.declared.Explored.{Explored}
-use Rattle.explore.specs.declared.Explored.TheVariants.{Passed, Refused as NotExplored}
-use Rattle.explore.specs.declared.Ran.{Ran}
-use Rattle.explore.specs.declared.Ran.TheVariants.{Complete, Refused as NotRun}
+use Rattle.reading.specs.declared.Reason.{Reason}
+use Rattle.reading.specs.declared.Refused.{Refused}
+use Rattle.reading.specs.Told.{number_of}
 use Rattle.exploration.specs.Run.{Limits, Why, refusal_number, passed, failed, Outcome, complete, refused, oldest}
 use Rattle.exploration.specs.Run.{through, all_rewritings}
 use Rattle.admit.specs.WorkingArray.{state_in, Working}
@@ -30,18 +29,19 @@ pub record MemberIn (B R : List ℕ) : Type 0 where
   pub shaped : Shaped (length (book_of B).question.answer) (question_of stored R)
 
 -- what becomes of the exploration of the member M, by these limits and rules, and of the working array W
-abbrev pub ExploredIs : Limits → List Rule → Question → List ℕ → Extent → List ℕ → Explored → Type 0
-ExploredIs lim rules M W e X (Passed f) =
+abbrev pub ExploredIs : Limits → List Rule → Question → List ℕ → Extent → List ℕ → Result Extent Reason → Type 0
+ExploredIs lim rules M W e X (Ok f) =
     (through covers lim M (all_rewritings rules M) (state_in W e) ≡ passed (state_in X f)) × Working X f
-ExploredIs lim rules M W e X (NotExplored n) =
-    (w : Why) × (through covers lim M (all_rewritings rules M) (state_in W e) ≡ failed w) × (n ≡ refusal_number w)
+ExploredIs lim rules M W e X (Err r) =
+    (w : Why) × (through covers lim M (all_rewritings rules M) (state_in W e) ≡ failed w) × (number_of r ≡ refusal_number w)
 
 -- the sets of relations beside that array then
-abbrev pub SetsLeft : List ℕ → List ℕ → Explored → Type 0
-SetsLeft S X (Passed f) = Beside S X f.count
-SetsLeft S X (NotExplored n) = Unit {0}
+abbrev pub SetsLeft : List ℕ → List ℕ → Result Extent Reason → Type 0
+SetsLeft S X (Ok f) = Beside S X f.count
+SetsLeft S X (Err r) = Unit {0}
 
--- what becomes of the run, whose outcome is o; complete, the working array X holds the members
-abbrev pub RanIs : Outcome → List ℕ → Ran → Type 0
-RanIs o X (Complete f n) = (o ≡ complete (state_in X f).members n) × Working X f × (n ≤ 1000)
-RanIs o X (NotRun k p) = (w : Why) × (o ≡ refused w p) × (k ≡ refusal_number w)
+-- what becomes of the run, whose outcome is o; complete, the working array X holds the members, and so many questions were
+-- explored
+abbrev pub RanIs : Outcome → List ℕ → Result (Extent × ℕ) Refused → Type 0
+RanIs o X (Ok r) = (o ≡ complete (state_in X r.0).members r.1) × Working X r.0 × (r.1 ≤ 1000)
+RanIs o X (Err r) = (w : Why) × (o ≡ refused w r.place) × (number_of r.reason ≡ refusal_number w)

@@ -11,12 +11,13 @@ ghost use Rattle.explore.specs.Exploring.{MemberIn, ExploredIs, SetsLeft};
 ghost use Rattle.explore.specs.Related.{HeadSets};
 ghost use Rattle.exploration.specs.Refusals.{answers_of, limits_of};
 
+use super::Head;
 use super::related::RULES;
 use super::skipping::{after_drop, fresh};
 use super::taking_up::next_rewriting;
-use super::{Explored, Head};
 use admit::{Extent, Fate, ROOM, admit};
 use covering::RECORD;
+use reading::Reason;
 
 // Admits the member's rewritings, one after the other. If the member is itself removed its exploration stops at once,
 // after the append. After a drop, choices whose rewritings would all be dropped are passed over.
@@ -30,7 +31,7 @@ pub fn explore(
     sets: &mut [u64; ROOM],
     filled: Extent,
     answers: u8,
-) -> Explored
+) -> Result<Extent, Reason>
     requires { SoundBook book.now
         × (rules ≡ rules_of book.now)
         × StartsAt book.now starts.now
@@ -58,12 +59,11 @@ pub fn explore(
     loop {
         let found = next_rewriting(book, rules, starts, heads, member, rule, from, &mut room);
         let Some(taken) = found else {
-            return Explored::Passed(held);
+            return Ok(held);
         };
         rule = taken.rule;
         from = taken.choice + 1;
-        let fate = admit(work, sets, held, &room, answers);
-        match fate {
+        match admit(work, sets, held, &room, answers)? {
             Fate::Dropped => {
                 let resumed = after_drop(
                     book,
@@ -80,13 +80,11 @@ pub fn explore(
                 patience = resumed.patience;
             }
             Fate::Appended(next) => {
-                let stops = cover::covers_sound(&room, member);
-                if stops {
-                    return Explored::Passed(next);
+                if cover::covers_sound(&room, member) {
+                    return Ok(next);
                 }
                 held = next;
             }
-            Fate::Refused(number) => return Explored::Refused(number),
         }
     }
 }

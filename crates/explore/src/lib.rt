@@ -8,7 +8,6 @@ mod skipping;
 mod taking_up;
 mod whole_run;
 
-use admit::Extent;
 pub use whole_run::{answer_records, run};
 
 // "Output room becomes 4,104 for all": 8 and 64 times the record of eight atoms and an answer record, six places each.
@@ -42,20 +41,4 @@ pub struct Patience {
 pub struct Resumed {
     pub from: usize,
     pub patience: Patience,
-}
-
-// What becomes of the exploration of one member: it is through, and the array is filled so far; or the run is refused
-// with that number.
-#[derive(Clone, Copy)]
-pub enum Explored {
-    Passed(Extent),
-    Refused(u8),
-}
-
-// What becomes of the run: it is complete, the array is filled so far and so many questions were explored; or it is
-// refused with that number, and so many were taken up.
-#[derive(Clone, Copy)]
-pub enum Ran {
-    Complete(Extent, usize),
-    Refused(u8, usize),
 }

@@ -7,18 +7,17 @@ ghost use Rattle.covering.specs.Asking.{joined};
 ghost use Rattle.records.specs.Relations.{relations_of};
 ghost use Rattle.reading.specs.Header.{form_of, new};
 ghost use Rattle.reading.specs.Book.{book_of};
-ghost use Rattle.reading.specs.Told.{number_of, number_told, place_told};
+ghost use Rattle.reading.specs.Told.{number_told, place_told};
 ghost use Rattle.reading.specs.Verdict.{SoundBook};
-ghost use Rattle.exploration.specs.Run.{Why, refusal_number};
 ghost use Rattle.exploration.specs.Union.{output_size};
 ghost use Rattle.exploration.specs.Answer.{outcome_of, Answers};
 ghost use Rattle.exploration.specs.Refusals.{answers_of};
 ghost use Rattle.explore.specs.Exploring.{RanIs};
 
+use super::OUTPUT;
 use super::exploring::explore;
 use super::related::head_sets;
 use super::taking_up::oldest;
-use super::{Explored, OUTPUT, Ran};
 use admit::{Extent, FIRST, ROOM, append};
 use covering::RECORD;
 use forms::{BOOK, to_new};
@@ -55,8 +54,8 @@ pub fn answer_records(book: &[u8]) -> u8
 }
 
 // Takes up the oldest unexplored member and explores it, until none is unexplored or the run is refused. Inside, atoms
-// have six places: the book is in the new form.
-fn explore_all(book: &[u8], work: &mut [u8]) -> Ran
+// have six places: the book is in the new form. Answers how far the array is filled, and how many were explored.
+fn explore_all(book: &[u8], work: &mut [u8]) -> Result<(Extent, usize), Refused>
     requires { SoundBook book.now × (length work.old ≡ output_size) × (form_of book.now ≡ new) }
     ensures { RanIs (outcome_of book.now) work.new result }
 {
@@ -77,32 +76,27 @@ fn explore_all(book: &[u8], work: &mut [u8]) -> Ran
     let mut taken = 0;
     while filled.front < filled.count {
         if taken == allowed {
-            return Ran::Refused(10, taken);
+            return Err(Refused {
+                reason: Reason::NoneLeft,
+                place: taken,
+            });
         }
         let member = oldest(work, filled);
         taken += 1;
         filled.front += 1;
-        let explored = explore(
+        match explore(
             book, rules, &starts, &heads, &member, work, &mut sets, filled, answers,
-        );
-        match explored {
-            Explored::Passed(next) => filled = next,
-            Explored::Refused(number) => return Ran::Refused(number, taken),
+        ) {
+            Ok(next) => filled = next,
+            Err(reason) => {
+                return Err(Refused {
+                    reason,
+                    place: taken,
+                });
+            }
         }
     }
-    Ran::Complete(filled, taken)
-}
-
-// The reason of a number that an exploration meets: it is refused 8 to 10.
-fn reason(number: u8) -> Reason
-    requires { (w : Why) × (number ≡ refusal_number w) }
-    ensures { number_of result ≡ number }
-{
-    match number {
-        8 => Reason::TooLong,
-        9 => Reason::NoRoom,
-        _ => Reason::NoneLeft,
-    }
+    Ok((filled, taken))
 }
 
 // Builds a sound book's union in a working array of its own, from the book as it is in the new form, and writes it with
@@ -121,19 +115,11 @@ fn run_sound(book: &[u8], wide: &[u8], out: &mut [u8]) -> Result<usize, Refused>
         out.new }
 {
     let mut work = [0u8; OUTPUT];
-    let ran = explore_all(wide, &mut work);
-    match ran {
-        Ran::Complete(filled, explored) => {
-            let places = book::read(book).places;
-            let answers = answer_records(book);
-            let end = put_union(&work, filled.count, explored, answers, out, places);
-            Ok(end)
-        }
-        Ran::Refused(number, place) => Err(Refused {
-            reason: reason(number),
-            place: place,
-        }),
-    }
+    let (filled, explored) = explore_all(wide, &mut work)?;
+    let places = book::read(book).places;
+    let answers = answer_records(book);
+    let end = put_union(&work, filled.count, explored, answers, out, places);
+    Ok(end)
 }
 
 // The union of a book's question and its length, or why there is none: 1 to 7 and 11 of the output and of the book's

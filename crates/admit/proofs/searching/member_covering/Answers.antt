@@ -2,7 +2,7 @@
 -- the search of it says no; else the search ends.
 use native.Mathlib.Omega.{arith}
 use mathlib.Core.Path.{refl, sym, ◌∙◌, subst}
-use Rattle.covering.specs.Record.{stored, question_of, SoundRecord}
+use Rattle.covering.specs.Record.{stored, SoundRecord}
 use Rattle.covering.proofs.Slices.{part_is}
 use Rattle.records.proofs.Among.{not_part}
 use Rattle.admit.proofs.Finding.{passed_start, passed_here, passed_set, passed_found, passed_more, passed_all, not_found}

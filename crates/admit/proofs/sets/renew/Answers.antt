@@ -11,7 +11,7 @@ use Rattle.covering.proofs.Slices.{part_is}
 use Rattle.records.specs.Relations.{relations_of}
 use Rattle.exploration.specs.Held.{held_from, Standing}
 use Rattle.exploration.proofs.Members.{ending_none, members_count}
-use Rattle.exploration.proofs.Standing.{Here, stands}
+use Rattle.exploration.proofs.Standing.{stands}
 use Rattle.admit.specs.Sets.{SetsFrom}
 use Rattle.admit.proofs.Beside.{next_end, sets_next, sets_longer}
 use Rattle.admit.proofs.sets.renew.Goals as goal

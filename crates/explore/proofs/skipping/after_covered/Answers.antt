@@ -1,7 +1,7 @@
 -- `explore::skipping::after_covered` meets its contract. The loop's invariant: all that is listed between the choice and
 -- the number to go on from is covered.
 use native.Mathlib.Omega.{arith}
-use mathlib.Core.Path.{sym, ap, ap₂, ◌∙◌}
+use mathlib.Core.Path.{sym, ap, ap₂}
 use Prim.Native.Nat.{◌-◌}
 use lib.ListN.{get_or}
 use Rattle.covering.specs.Record.{stored}

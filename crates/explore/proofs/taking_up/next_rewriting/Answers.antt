@@ -1,11 +1,11 @@
 -- `explore::taking_up::next_rewriting` meets its contract. The loop's invariant: what is sought is the first rewriting
 -- from the rule at hand on.
 use native.Mathlib.Omega.{arith}
-use mathlib.Core.Path.{◌≡◌, refl, sym, ap, ◌∙◌}
+use mathlib.Core.Path.{refl, sym, ap, ◌∙◌}
 use Prim.Native.Nat.{ℕ, ◌≤◌, ◌<◌}
 use Rattle.covering.specs.Record.{stored, question_of}
 use Rattle.reading.specs.Header.{rules as rules_of}
-use Rattle.reading.specs.Book.{rule_at, rule_start}
+use Rattle.reading.specs.Book.{rule_at}
 use Rattle.reading.proofs.Reading.{rules_left}
 use Rattle.explore.specs.Related.{head_told}
 use Rattle.explore.specs.Taking.{next_among}
