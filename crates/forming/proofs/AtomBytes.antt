@@ -12,6 +12,7 @@ use borrow.Author.Count.{below_more}
 use borrow.Author.Tests.{eq-eqb, ne_eqb, ltb-true, ltb-false}
 use lib.Dec.{T, eqb, ltb, eqb→eq}
 use lib.ListN.{length, get_or, take, drop, set}
+use lib.Pointwise.{pointwise, bytes_decides}
 use lib.Seq.{get_or-take, get_or-drop, get_or-set_same, get_or-set_other}
 use Rattle.covering.specs.Lists.{◌∈◌}
 use Rattle.covering.specs.Term.{Term, Atom, Sub, on_term, on_atom, eq_atom}
@@ -19,7 +20,7 @@ use Rattle.covering.specs.Record.{Layout, stored, size, term_of, args_at, atom_a
 use Rattle.covering.specs.Record.{is_atom, are_atoms, byte_of, places_bytes, atom_bytes, AtomFits}
 use Rattle.covering.specs.Buffer.{AtomIn}
 use Rattle.forming.specs.Building.{sub_of}
-use Rattle.covering.proofs.Tests.{either, both, fst_of, snd_of, true→T, T→true, no→false}
+use Rattle.covering.proofs.Tests.{either, both, fst_of, snd_of, true→T, T→true, no→false, false→no}
 use Rattle.covering.proofs.Terms.{atom_path, eq_atom→eq, eq_atom_refl}
 use Rattle.covering.proofs.Bytes.{term_var, term_con, atom_used, term_constant}
 use Rattle.covering.proofs.RoundTrip.{atoms_read, atoms_back, TellsApart}
@@ -68,15 +69,37 @@ module _ (L : Layout) (B C : List ℕ) where
             (args_same L.places (i + 1) (k + 1)
             (λ j lt. rw (← further i j, ← further k j) (h (suc j) (omega arith))))
 
-    pub other_bytes : TellsApart L → AtomIn L B i → AtomIn L C k → (j : ℕ) → j < size L
-        → (get_or B (i + j) 0 ≡ get_or C (k + j) 0 → ⊥) → eq_atom (atom_at L B i) (atom_at L C k) ≡ false
-    other_bytes ap-L a b j lt ne = no→false _ (λ t. ne (at (eq_atom→eq _ _ t)))
-      where
-        at : atom_at L B i ≡ atom_at L C k → get_or B (i + j) 0 ≡ get_or C (k + j) 0
-        at e =
-            sym (get_or-take (size L) (drop i B) j 0 lt ∙ get_or-drop i B j 0)
-            ∙ ap (λ l. get_or l j 0) (atom_bytes_lem L ap-L B i a ∙ ap (atom_bytes L) e ∙ sym (atom_bytes_lem L ap-L C k b))
-            ∙ (get_or-take (size L) (drop k C) j 0 lt ∙ get_or-drop k C j 0)
+-- sound atoms are equal where their bytes are
+pub equal_bytes : (L : Layout) → TellsApart L → (B C : List ℕ) (i k m n : ℕ) → AtomIn L B i → AtomIn L C k
+    → m ≡ size L → n ≡ size L
+    → pointwise eqb (take m (drop i B)) (take n (drop k C)) ≡ eq_atom (atom_at L B i) (atom_at L C k)
+equal_bytes L ap-L B C i k m n a b e f =
+    ap₂ (λ (x y : ℕ). pointwise eqb (take x (drop i B)) (take y (drop k C))) e f
+    ∙ go (either (eq_atom (atom_at L B i) (atom_at L C k)))
+  where
+    X : List ℕ
+    X = take (size L) (drop i B)
+
+    Y : List ℕ
+    Y = take (size L) (drop k C)
+
+    byte : X ≡ Y → (j : ℕ) → j < size L → get_or B (i + j) 0 ≡ get_or C (k + j) 0
+    byte e j lt =
+        sym (get_or-take (size L) (drop i B) j 0 lt ∙ get_or-drop i B j 0)
+        ∙ ap (λ l. get_or l j 0) e
+        ∙ (get_or-take (size L) (drop k C) j 0 lt ∙ get_or-drop k C j 0)
+
+    go : (eq_atom (atom_at L B i) (atom_at L C k) ≡ true) ⊎ (eq_atom (atom_at L B i) (atom_at L C k) ≡ false)
+        → pointwise eqb X Y ≡ eq_atom (atom_at L B i) (atom_at L C k)
+    go (inl e) =
+        (bytes_decides X Y).1
+        (atom_bytes_lem L ap-L B i a
+        ∙ ap (atom_bytes L) (eq_atom→eq _ _ (true→T _ e))
+        ∙ sym (atom_bytes_lem L ap-L C k b))
+        ∙ sym e
+    go (inr e) =
+        no→false _ (λ t. false→no _ e (true→T _ (same_bytes L B C i k (byte ((bytes_decides X Y).0 (T→true _ t))))))
+        ∙ sym e
 
 -- the places of a sound atom, at an index
 module _ (B : List ℕ) where

@@ -23,14 +23,7 @@ fn same_atom(first: &[u8], second: &[u8], i: usize, k: usize) -> bool
     requires { AtomIn stored first.now i × AtomIn stored second.now k }
     ensures { result ≡ eq_atom (atom_at stored first.now i) (atom_at stored second.now k) }
 {
-    let mut j = 0;
-    while j < 7 {
-        if first[i + j] != second[k + j] {
-            return false;
-        }
-        j += 1;
-    }
-    true
+    first[i..i + 7] == second[k..k + 7]
 }
 
 // Whether the atom of from at `at` is among the n atoms of kept that start at i.
@@ -39,14 +32,10 @@ fn has_atom(kept: &[u8], i: usize, n: usize, from: &[u8], at: usize) -> bool
     ensures { result
         ≡ has eq_atom (atoms_at stored kept.now i n) (atom_at stored from.now at) }
 {
-    let mut next = i;
-    let mut left = n;
-    while 0 < left {
-        if same_atom(kept, from, next, at) {
+    for k in 0..n {
+        if same_atom(kept, from, i + k * 7, at) {
             return true;
         }
-        next += 7;
-        left -= 1;
     }
     false
 }
@@ -63,11 +52,7 @@ pub fn put_atom(kept: &mut [u8], from: &[u8], at: usize)
     let n = kept[0];
     let start = records::width(n);
     kept[0] = n + 1;
-    let mut byte = 0;
-    while byte < 7 {
-        kept[start + byte] = from[at + byte];
-        byte += 1;
-    }
+    kept[start..start + 7].copy_from_slice(&from[at..at + 7]);
 }
 
 // The same where the atom is not among the record's own; else the record stays as it is.
@@ -79,11 +64,10 @@ fn put_new(kept: &mut [u8], from: &[u8], at: usize)
         record_room
         (added eq_atom (question_of stored kept.old) (atom_at stored from.now at)) }
 {
-    let n = kept[0] as usize;
-    if has_atom(kept, 1, n, from, at) {
-        return;
+    let n = usize::from(kept[0]);
+    if !has_atom(kept, 1, n, from, at) {
+        put_atom(kept, from, at);
     }
-    put_atom(kept, from, at);
 }
 
 // The record with equal atoms dropped but for the first.
@@ -92,12 +76,9 @@ fn drop_equal(member: &[u8]) -> [u8; RECORD]
     ensures { result ≡ held_in stored record_room (dedup (question_of stored member.now)) }
 {
     let mut kept = no_atoms();
-    let n = member[0] as usize;
-    let mut left = n;
-    while 0 < left {
-        let at = 1 + (n - left) * 7;
-        put_new(&mut kept, member, at);
-        left -= 1;
+    let n = usize::from(member[0]);
+    for k in 0..n {
+        put_new(&mut kept, member, 1 + k * 7);
     }
     kept
 }
@@ -108,57 +89,59 @@ fn all_differ(member: &[u8]) -> bool
     ensures { result ≡ true
         → dedup (question_of stored member.now) ≡ question_of stored member.now }
 {
-    let mut at = 1;
-    let mut left = member[0] as usize;
-    while 0 < left {
-        left -= 1;
-        if has_atom(member, at + 7, left, member, at) {
+    let n = usize::from(member[0]);
+    for k in 0..n {
+        let at = 1 + k * 7;
+        if has_atom(member, at + 7, n - (k + 1), member, at) {
             return false;
         }
-        at += 7;
     }
     true
 }
 
-// Gives the term t the next number, if it is a variable that has none. The table has the new numbers given so far, 255
-// for none yet; the answer is how many there are now.
-fn number_term(table: &mut [u8], count: u8, t: u8) -> u8
-    requires { (length table.old ≡ 96) × (96 ≤ t → 128 ≤ t) × (count < 96) }
-    ensures { (result ≤ count + 1)
-        × ((S : List ℕ)
-        → NumberTable S table.old count
-        → NumberTable (seen S (term_of t)) table.new result) }
-{
-    if 96 <= t {
-        return count;
-    }
-    let at = t as usize;
-    if table[at] != 255 {
-        return count;
-    }
-    table[at] = count;
-    count + 1
+// The new numbers of variables, in a table: 255 for none yet; and how many are given.
+#[derive(Drop)]
+struct Numbers {
+    table: [u8; 96],
+    given: u8,
 }
 
-// Numbers the variables of the atom of from at `at`, in order.
-fn number_atom(table: &mut [u8], count: u8, from: &[u8], at: usize) -> u8
-    requires { (length table.old ≡ 96) × AtomIn stored from.now at × (count + 6 ≤ 96) }
-    ensures { (result ≤ count + 6)
-        × ((S : List ℕ)
-        → NumberTable S table.old count
-        → NumberTable (all_seen S (atom_at stored from.now at).args) table.new result) }
-{
-    let mut given = count;
-    let mut j = 0;
-    while j < 6 {
-        let t = from[at + 1 + j];
-        if t == 255 {
-            return given;
+impl Numbers {
+    // Gives the term t the next number, if it is a variable that has none.
+    fn number_term(&mut self, t: u8)
+        requires { (96 ≤ t → 128 ≤ t) × (self.old.given < 96) }
+        ensures { (self.new.given ≤ self.old.given + 1)
+            × ((S : List ℕ)
+            → NumberTable S self.old.table self.old.given
+            → NumberTable (seen S (term_of t)) self.new.table self.new.given) }
+    {
+        if 96 <= t {
+            return;
         }
-        given = number_term(table, given, t);
-        j += 1;
+        let at = usize::from(t);
+        if self.table[at] != 255 {
+            return;
+        }
+        self.table[at] = self.given;
+        self.given += 1;
     }
-    given
+
+    // Numbers the variables of the atom of from at `at`, in order.
+    fn number_atom(&mut self, from: &[u8], at: usize)
+        requires { AtomIn stored from.now at × (self.old.given + 6 ≤ 96) }
+        ensures { (self.new.given ≤ self.old.given + 6)
+            × ((S : List ℕ)
+            → NumberTable S self.old.table self.old.given
+            → NumberTable (all_seen S (atom_at stored from.now at).args) self.new.table self.new.given) }
+    {
+        for j in 0..6 {
+            let t = from[at + 1 + j];
+            if t == 255 {
+                return;
+            }
+            self.number_term(t);
+        }
+    }
 }
 
 // The new number of each variable of the record, by first appearance, and 255 for any other.
@@ -168,49 +151,44 @@ fn numbers_of(member: &[u8]) -> [u8; 96]
         → n < 96
         → get_or result n 0 ≡ new_number (firsts (terms (question_of stored member.now))) n }
 {
-    let mut table = [255u8; 96];
-    let mut count = 0;
-    let mut at = 1;
-    let mut left = member[0] as usize;
-    while 0 < left {
-        count = number_atom(&mut table, count, member, at);
-        at += 7;
-        left -= 1;
+    let mut numbers = Numbers {
+        table: [255; 96],
+        given: 0,
+    };
+    for k in 0..usize::from(member[0]) {
+        numbers.number_atom(member, 1 + k * 7);
     }
-    table
+    numbers.table
 }
 
 // The byte t with a variable replaced by what the table has for it: a constant stays, and so does 255.
-fn replaced(table: &[u8], t: u8) -> u8
-    requires { (length table.now ≡ 96) × (96 ≤ t → 128 ≤ t) }
+fn replaced(table: &[u8; 96], t: u8) -> u8
+    requires { 96 ≤ t → 128 ≤ t }
     ensures { result ≡ byte_of (on_term (sub_of table.now) (term_of t)) }
 {
     if 96 <= t {
         return t;
     }
-    table[t as usize]
+    table[usize::from(t)]
 }
 
 // The bytes of the atom of from at `at`, each variable replaced by the term whose byte the table has for it.
-fn atom_on(table: &[u8], from: &[u8], at: usize) -> [u8; 7]
-    requires { (length table.now ≡ 96) × AtomIn stored from.now at }
+fn atom_on(table: &[u8; 96], from: &[u8], at: usize) -> [u8; 7]
+    requires { AtomIn stored from.now at }
     ensures { result
         ≡ atom_bytes stored (on_atom (sub_of table.now) (atom_at stored from.now at)) }
 {
     let mut atom = [255u8; 7];
     atom[0] = from[at];
-    let mut j = 1;
-    while j < 7 {
+    for j in 1..7 {
         atom[j] = replaced(table, from[at + j]);
-        j += 1;
     }
     atom
 }
 
 // Puts that atom, its variables so replaced, after the record's own.
-pub fn put_on(kept: &mut [u8], table: &[u8], from: &[u8], at: usize)
+pub fn put_on(kept: &mut [u8], table: &[u8; 96], from: &[u8], at: usize)
     requires { RoomLeft stored record_room kept.old
-        × (length table.now ≡ 96)
         × AtomIn stored from.now at
         × AtomFits stored (on_atom (sub_of table.now) (atom_at stored from.now at)) }
     ensures { kept.new
@@ -232,12 +210,8 @@ fn put_renumbered(out: &mut [u8; RECORD], member: &[u8])
 {
     let table = numbers_of(member);
     *out = no_atoms();
-    let mut at = 1;
-    let mut left = member[0] as usize;
-    while 0 < left {
-        put_on(out, &table, member, at);
-        at += 7;
-        left -= 1;
+    for k in 0..usize::from(member[0]) {
+        put_on(out, &table, member, 1 + k * 7);
     }
 }
 

@@ -1,11 +1,11 @@
 -- A record of its own, in 85 bytes: what is known of its bytes is known from its question.
-use mathlib.Core.Path.{◌≡◌, refl, sym, ap, subst, ◌∙◌}
+use mathlib.Core.Path.{◌≡◌, sym, ap, subst, ◌∙◌}
 use mathlib.Core.List.{List, []}
 use mathlib.Core.List.Memᴰ
 use Prim.Native.Nat.{ℕ}
 use native.Mathlib.Omega.{arith}
 use Rattle.covering.specs.Term.{Question}
-use Rattle.covering.specs.Record.{stored, question_of, SoundRecord, Fits}
+use Rattle.covering.specs.Record.{stored, question_of, Fits}
 use Rattle.covering.specs.Buffer.{held_in, record_room}
 use Rattle.covering.proofs.Padded.{stored_sound, stored_question}
 use Rattle.records.specs.Holding.{HeldRecord}

@@ -8,6 +8,7 @@ use native.Mathlib.Omega.{arith}
 use native.Mathlib.Nat.{mul-le-mul_right}
 use native.Mathlib.Numerals.{add-one}
 use lib.Dec.{T}
+use lib.ListN.{length}
 use Rattle.covering.specs.Lists.{◌∈◌}
 use Rattle.covering.specs.Term.{Atom, Question}
 use Rattle.covering.specs.Record.{Layout, size, atom_at, atoms_at, is_atom, are_atoms}
@@ -31,6 +32,15 @@ module _ (L : Layout) (B : List ℕ) where
   sound_at (suc k) n i h t =
       subst (λ (j : ℕ). T (is_atom L B j)) (omega arith)
       (sound_at k (n - 1) (i + size L) (omega arith) (sound_more L B i n (omega arith) t).1)
+
+  sound_from : (k n i : ℕ) → k ≤ n → T (are_atoms L B i n) → T (are_atoms L B (i + k * size L) (n - k))
+  sound_from zero n i h t =
+      subst (λ (m : ℕ). T (are_atoms L B (i + 0 * size L) m)) (omega arith)
+      (subst (λ (j : ℕ). T (are_atoms L B j n)) (omega arith) t)
+  sound_from (suc k) n i h t =
+      subst (λ (j : ℕ). T (are_atoms L B j (n - suc k))) (omega arith)
+      (subst (λ (m : ℕ). T (are_atoms L B (i + size L + k * size L) m)) (omega arith)
+      (sound_from k (n - 1) (i + size L) (omega arith) (sound_more L B i n (omega arith) t).1))
 
   stands : (k n i : ℕ) → k < n → nth i k ∈ atoms_at L B i n
   stands zero n i h =
@@ -57,6 +67,19 @@ module _ (L : Layout) (B : List ℕ) where
 
       pub from_none : (k : ℕ) → n ≤ k → from k ≡ []
       from_none k h = atoms_none L B (i + k * size L) (n - k) (omega arith)
+
+      pub from_in : (k : ℕ) → k ≤ n → AtomsIn L B i n → AtomsIn L B (i + k * size L) (n - k)
+      from_in k h a =
+          record {
+            fits = subst (λ (m : ℕ). m ≤ length B) whole a.fits;
+            sound = sound_from k n i h a.sound;
+          }
+        where
+          whole : i + n * size L ≡ i + k * size L + (n - k) * size L
+          whole = ap (λ (m : ℕ). i + m * size L) parts ∙ omega arith
+            where
+              parts : n ≡ k + (n - k)
+              parts = omega arith
 
       module _ (k : ℕ) (lt : k < n) where
         pub from_more : from k ≡ nth i k ∷ from (k + 1)

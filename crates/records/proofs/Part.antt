@@ -3,14 +3,14 @@
 use mathlib.Core.Path.{◌≡◌, sym, ◌∙◌, ap, ap₂}
 use mathlib.Core.Bool.{true, false}
 use mathlib.Core.Logic.{◌⊎◌, inl, inr}
-use mathlib.Core.List.{List, ◌++◌}
+use mathlib.Core.List.{List, ◌++◌, append_assoc}
 use Prim.Native.Nat.{ℕ, ◌+◌, ◌-◌, ◌≤◌, ◌<◌, min}
 use native.Mathlib.Omega.{arith}
 use borrow.Author.Tests.{ltb-true, ltb-false, lt-ltb, le-ltb}
 use borrow.Rule.Slice.PartMut.{put_mid}
 use lib.Dec.{T, ltb}
 use lib.ListN.{length, get_or, take, drop, replicate, length-append, length-replicate, length-take, length-drop, get_or-append}
-use lib.Seq.{drop-drop, ext_get_or, get_or-append_right}
+use lib.Seq.{paste, drop-drop, ext_get_or, get_or-append_right}
 use Rattle.std.proofs.lemmas.List.{get_or-replicate}
 use Rattle.covering.specs.Buffer.{place_or}
 use Rattle.covering.specs.Put.{Puts}
@@ -29,6 +29,13 @@ put_part t bytes at k end e f h =
       within = h;
       puts = ap (λ (r : List ℕ). take at t ++ (bytes ++ r)) (drop-drop k at t ∙ ap (λ (n : ℕ). drop n t) f);
     }
+
+-- the front of some bytes is written
+pub put_front : (t s bytes : List ℕ) (at k m n : ℕ) → bytes ≡ take m s → m ≡ n → k ≡ n → put_mid at k t bytes ≡ paste t at s n
+put_front t s bytes at k m n e f g =
+    ap₂ (λ (x r : List ℕ). take at t ++ (x ++ r)) (e ∙ ap (λ (j : ℕ). take j s) f)
+    (drop-drop k at t ∙ ap (λ (j : ℕ). drop (at + j) t) g)
+    ∙ sym (append_assoc (take at t) (take n s) (drop (at + n) t))
 
 -- u places are kept, as many as there are or as there can be
 module _ (w v u : ℕ) (few : u ≡ min w v) (B : List ℕ) (i : ℕ) (fits : i + 1 + w ≤ length B) where

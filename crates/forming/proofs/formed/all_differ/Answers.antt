@@ -1,48 +1,39 @@
 -- `forming::formed::all_differ` meets its contract. The loop's invariant: if of the atoms from here on none is dropped,
--- none of them all is, and these are sound. The measure is their number.
+-- none of them all is.
 use native.Mathlib.Omega.{arith}
-use mathlib.Core.Path.{sym, ◌∙◌}
+use mathlib.Core.Path.{◌≡◌, sym, ◌∙◌, ap, subst}
 use mathlib.Core.Bool.{true≢false}
-use Rattle.covering.specs.Record.{stored, question_of}
+use Prim.Native.Nat.{ℕ, ◌+◌, ◌*◌, ◌-◌, ◌<◌}
+use lib.ListN.{get_or}
+use Rattle.covering.specs.Form.{dedup}
+use Rattle.covering.specs.Record.{stored}
+use Rattle.covering.specs.Buffer.{AtomsIn}
 use Rattle.covering.proofs.Within.{sound_in}
-use Rattle.forming.proofs.Passing.{in_next, differ_none, differ_next}
+use Rattle.records.proofs.Onward.{nth_in, from_in}
+use Rattle.forming.proofs.Passing.{question_left, differ_none, differ_next}
 use Rattle.forming.proofs.formed.all_differ.Goals as goal
 
-pub bounds-member-0 : goal.bounds-member-0
-bounds-member-0 c = omega (arith, c.requires.fits)
-
-pub overflow_cast-left : goal.overflow_cast-left
-overflow_cast-left c = omega (arith, c.shared_slice_known-2-1.given 0)
-
-pub loop-left-init : goal.loop-left-init
-unfolding question_of
-loop-left-init c = (sound_in stored _ c.requires, λ e. e)
-
-pub overflow_add-at : goal.overflow_add-at
-overflow_add-at c =
-    let a = in_next stored _ _ _ c.loop-left.invariant.0 c.loop-left-test.true in
-    omega (arith, a.0.fits)
+pub loop-k-init : goal.loop-k-init
+loop-k-init c = λ e. let q = question_left c.args.member.now in ap dedup q ∙ e ∙ sym q
 
 pub has_atom-requires : goal.has_atom-requires
 has_atom-requires c =
-    let a = in_next stored _ _ _ c.loop-left.invariant.0 c.loop-left-test.true in
-    (a.1, a.0)
+    let m = c.args.member.now in
+    let all = sound_in stored m c.requires in
+    let lt : c.loop-k.k < get_or m 0 0 = omega (arith, c.from-n.ensures) in
+    let others = from_in stored m 1 _ (c.loop-k.k + 1) (omega arith) all in
+    let next : 1 + (c.loop-k.k + 1) * 7 ≡ 1 + c.loop-k.k * 7 + 7 = omega arith in
+    (rw c.from-n.ensures (subst (λ (i : ℕ). AtomsIn stored m i (get_or m 0 0 - (c.loop-k.k + 1))) next others), nth_in stored m 1 _ _ lt all)
+
+pub loop-k-preserved : goal.loop-k-preserved
+loop-k-preserved c =
+    let m = c.args.member.now in
+    let lt : c.loop-k.k < get_or m 0 0 = omega (arith, c.from-n.ensures) in
+    let new = rw c.from-n.ensures at (sym c.has_atom.ensures ∙ c.if-has_atom.false) in
+    λ e. c.loop-k.invariant (differ_next m 1 _ _ lt new e)
 
 pub returns-then-has_atom : goal.returns-then-has_atom
 returns-then-has_atom c = λ e. absurd (true≢false (sym e))
 
-pub overflow_add-at-in-loop-left : goal.overflow_add-at-in-loop-left
-overflow_add-at-in-loop-left c =
-    let a = in_next stored _ _ _ c.loop-left.invariant.0 c.loop-left-test.true in
-    omega (arith, a.0.fits)
-
-pub loop-left-preserved : goal.loop-left-preserved
-loop-left-preserved c =
-    let l = c.loop-left in
-    let some = c.loop-left-test.true in (
-      (in_next stored _ _ _ l.invariant.0 some).1,
-      λ e. l.invariant.1 (differ_next stored _ _ _ some (sym c.has_atom.ensures ∙ c.if-has_atom.false) e),
-    )
-
 pub returns : goal.returns
-returns c = λ e. c.loop-left.invariant.1 (differ_none stored _ _ _ (omega arith))
+returns c = λ e. c.loop-k.invariant (differ_none _ _ _ _ (omega (arith, c.from-n.ensures)))

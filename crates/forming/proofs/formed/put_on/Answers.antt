@@ -7,20 +7,14 @@ use Rattle.covering.proofs.RoundTrip.{stored_apart}
 use Rattle.forming.proofs.AtomBytes.{bytes_in}
 use Rattle.forming.proofs.formed.put_on.Goals as goal
 
-pub atom_on-atom-requires : goal.atom_on-atom-requires
-atom_on-atom-requires c = let p = c.requires in (p.1, p.2)
-
 pub put_atom-requires : goal.put_atom-requires
 put_atom-requires c =
     let p = c.requires in
-    (p.0, (bytes_in stored stored_apart _ _ p.3 c.atom_on-atom.ensures).0)
-
-pub shape_of-kept : goal.shape_of-kept
-shape_of-kept c = c.put_atom.auto.kept
+    (p.0, (bytes_in stored stored_apart _ _ p.2 c.atom_on-atom.ensures).0)
 
 pub returns : goal.returns
 returns c =
     c.put_atom.ensures
     ∙ ap
     (λ a. held_in stored record_room (question_of stored c.args.kept.now ++ a ∷ []))
-    (bytes_in stored stored_apart _ _ c.requires.3 c.atom_on-atom.ensures).1
+    (bytes_in stored stored_apart _ _ c.requires.2 c.atom_on-atom.ensures).1

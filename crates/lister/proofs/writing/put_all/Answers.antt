@@ -25,7 +25,6 @@ put_on-requires c =
     let long : length a.table.now ≡ 96 = search rules in
     let one = nth_in a.from.now a.i a.n c.loop-k.k c.requires.1 (omega arith) in (
       filling_room _ _ c.loop-k.invariant.0 (omega arith),
-      long,
       first_atom_in _ _ _ one (omega arith),
       atom_on a.table.now c.requires.2 long _ (first_fits _ _ _ one (omega arith)),
     )
