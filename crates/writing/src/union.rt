@@ -32,7 +32,7 @@ fn put_member(work: &[u8], i: usize, answers: u8, out: &mut [u8], at: usize, w: 
 {
     let count = work[i];
     out[at] = count - answers;
-    copy_atoms(work, i + 1, count as usize, PLACES, out, at + 1, w)
+    copy_atoms(work, i + 1, usize::from(count), PLACES, out, at + 1, w)
 }
 
 // Puts the n members that stand from the first on, and answers where they end.
@@ -53,11 +53,9 @@ fn put_members(work: &[u8], n: usize, answers: u8, out: &mut [u8], w: usize) -> 
 {
     let mut from = FIRST;
     let mut at = FIRST;
-    let mut i = 0;
-    while i < n {
+    for _member in 0..n {
         at = put_member(work, from, answers, out, at, w);
         from += width(work[from]);
-        i += 1;
     }
     at
 }

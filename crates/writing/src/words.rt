@@ -8,7 +8,6 @@ pub fn put_word(out: &mut [u8], at: usize, n: usize) -> usize
     requires { (n < 65536) × (at + 2 ≤ length out.old) }
     ensures { Puts (word_bytes n) out.old at result out.new }
 {
-    out[at] = (n % 256) as u8;
-    out[at + 1] = (n / 256) as u8;
+    out[at..at + 2].copy_from_slice(&(n as u16).to_le_bytes());
     at + 2
 }

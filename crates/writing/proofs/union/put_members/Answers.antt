@@ -1,19 +1,18 @@
--- `writing::union::put_members` meets its contract. The loop's invariant: the members passed are put. The measure is the
--- number of members left.
+-- `writing::union::put_members` meets its contract. The loop's invariant: the members passed are put.
 use native.Mathlib.Omega.{arith}
 use mathlib.Core.Path.{sym, subst}
 use Prim.Native.Nat.{ℕ, ◌+◌}
 use Rattle.writing.proofs.Members.{SoFar, none_put, all_put, one_put, here_is, here_has, here_narrow, same_room}
 use Rattle.writing.proofs.union.put_members.Goals as goal
 
-pub loop-i-init : goal.loop-i-init
-loop-i-init c =
+pub loop-member-init : goal.loop-member-init
+loop-member-init c =
     none_put _ _ _ _ _ c.requires.0 c.requires.1 c.requires.2 c.requires.4 (omega (arith, c.requires.4, c.requires.5))
 
 pub put_member-at-requires : goal.put_member-at-requires
 put_member-at-requires c =
-    let inv = c.loop-i.invariant in
-    let more = c.loop-i-test.true in
+    let inv = c.loop-member.invariant in
+    let more = c.loop-member-test.true in
     let h = here_is _ _ _ _ _ inv more in (
       omega (arith, h.within),
       h.sound,
@@ -24,27 +23,24 @@ put_member-at-requires c =
     )
 
 pub bounds-work-from : goal.bounds-work-from
-bounds-work-from c = omega (arith, (here_is _ _ _ _ _ c.loop-i.invariant c.loop-i-test.true).within)
+bounds-work-from c = omega (arith, (here_is _ _ _ _ _ c.loop-member.invariant c.loop-member-test.true).within)
 
 pub overflow_add-from : goal.overflow_add-from
 overflow_add-from c =
-    omega (arith, (here_is _ _ _ _ _ c.loop-i.invariant c.loop-i-test.true).within, c.width-from.ensures)
+    omega (arith, (here_is _ _ _ _ _ c.loop-member.invariant c.loop-member-test.true).within, c.width-from.ensures)
 
-pub loop-i-preserved : goal.loop-i-preserved
-loop-i-preserved c =
+pub loop-member-preserved : goal.loop-member-preserved
+loop-member-preserved c =
     let a = c.args in
-    let inv = c.loop-i.invariant in
+    let inv = c.loop-member.invariant in
     subst
     (λ (k : ℕ). SoFar a.w a.answers a.work.now a.n a.out.now c.put_member-at.new.out
-    (c.loop-i.from + k) c.put_member-at.result (c.loop-i.i + 1))
+    (c.loop-member.from + k) c.put_member-at.result (c.loop-member._member + 1))
     (sym c.width-from.ensures)
-    (one_put _ _ _ _ _ inv c.loop-i-test.true c.requires.3
+    (one_put _ _ _ _ _ inv c.loop-member-test.true c.requires.3
     c.put_member-at.ensures)
-
-pub shape_of-out : goal.shape_of-out
-shape_of-out c = same_room _ _ _ _ _ c.loop-i.invariant
 
 pub returns : goal.returns
 returns c =
-    let inv = c.loop-i.invariant in
-    (all_put _ _ _ _ _ inv c.loop-i-test.false, omega (arith, inv.behind, inv.within))
+    let inv = c.loop-member.invariant in
+    (all_put _ _ _ _ _ inv c.loop-member-test.false, omega (arith, inv.behind, inv.within))
