@@ -1,46 +1,54 @@
 // What a covering map makes of a record, in words: where its variables go and which atoms its atoms meet.
-ghost use Rattle.std.specs.Prelude.{◌+◌, ◌*◌, ◌≤◌, length};
-ghost use Rattle.covering.specs.Buffer.{record_room};
-
 use cover::MAP;
 use covering::RECORD;
 use records::{is_record, widened};
-use std::io;
 use std::io::Write;
+use std::{fmt, io};
 
-// A term: `v` a variable, `c` a constant.
-fn term<W: Write>(out: &mut W, b: u8) -> io::Result<()> {
-    if b < 128 {
-        return write!(out, "v{b}");
+// The bytes of an atom as it is held inside: its relation and its places.
+const ATOM: usize = 7;
+
+// A term's byte, printed `v` for a variable, `c` for a constant, and its number.
+#[derive(Clone, Copy)]
+struct Term(u8);
+
+impl fmt::Display for Term {
+    fn fmt<W: fmt::Write>(&self, f: &mut fmt::Formatter<W>) -> fmt::Result {
+        let b = self.0;
+        if b < 128 {
+            return write!(f, "v{b}");
+        }
+        write!(f, "c{}", b - 128)
     }
-    let constant = b - 128;
-    write!(out, "c{constant}")
 }
 
-// A relation, `a` for the answer record's.
-fn relation<W: Write>(out: &mut W, b: u8) -> io::Result<()> {
-    if b == 255 {
-        return out.write_all(b"a");
-    }
-    write!(out, "r{b}")
-}
+// A relation's byte, printed `a` for the answer record's, else `r` and its number.
+#[derive(Clone, Copy)]
+struct Relation(u8);
 
-// The atom that starts at i, as the printing program prints it.
-fn atom<W: Write>(out: &mut W, r: &[u8], i: usize) -> io::Result<()>
-    requires { i + 7 ≤ length r.now }
-{
-    relation(out, r[i])?;
-    for j in 1usize..7 {
-        let b = r[i + j];
+impl fmt::Display for Relation {
+    fn fmt<W: fmt::Write>(&self, f: &mut fmt::Formatter<W>) -> fmt::Result {
+        let b = self.0;
         if b == 255 {
+            return f.write_str("a");
+        }
+        write!(f, "r{b}")
+    }
+}
+
+// Writes an atom as the printing program prints it: its relation, and its places before the first that is unused.
+fn tell_atom<W: Write>(out: &mut W, atom: &[u8]) -> io::Result<()> {
+    let [relation, places @ ..] = atom else {
+        return Ok(());
+    };
+    write!(out, "{}", Relation(*relation))?;
+    let mut before = "(";
+    for b in places {
+        if *b == 255 {
             break;
         }
-        if j == 1 {
-            out.write_all(b"(")?;
-        } else {
-            out.write_all(b",")?;
-        }
-        term(out, b)?;
+        write!(out, "{before}{}", Term(*b))?;
+        before = ",";
     }
     out.write_all(b")")
 }
@@ -53,84 +61,51 @@ fn image(map: &[u8; MAP], b: u8) -> u8 {
     b
 }
 
-// Whether the map sends the atom of first at i to that of second at k.
-fn goes(first: &[u8], i: usize, second: &[u8], k: usize, map: &[u8; MAP]) -> bool
-    requires { (i + 7 ≤ length first.now) × (k + 7 ≤ length second.now) }
-{
-    if first[i] != second[k] {
-        return false;
-    }
-    for j in 1usize..7 {
-        if image(map, first[i + j]) != second[k + j] {
-            return false;
+// Whether the map sends the one atom to the other.
+fn goes(map: &[u8; MAP], one: &[u8], other: &[u8]) -> bool {
+    match (one, other) {
+        ([r, ts @ ..], [s, us @ ..]) => {
+            r == s && ts.iter().zip(us).all(|(t, u)| image(map, *t) == *u)
         }
+        _ => false,
     }
-    true
-}
-
-// The atom of second, of its w, that the atom of first at i meets: the first that it goes to.
-fn tell_met<W: Write>(
-    out: &mut W,
-    first: &[u8],
-    i: usize,
-    second: &[u8],
-    w: usize,
-    map: &[u8; MAP],
-) -> io::Result<()>
-    requires { (i + 7 ≤ length first.now) × (1 + w * 7 ≤ length second.now) }
-{
-    for k in 0..w {
-        let at = 1 + 7 * k;
-        if goes(first, i, second, at, map) {
-            return atom(out, second, at);
-        }
-    }
-    Ok(())
 }
 
 // A line for each variable that goes somewhere.
 fn tell_variables<W: Write>(out: &mut W, map: &[u8; MAP]) -> io::Result<()> {
-    for v in 0..MAP {
-        if map[v] != 255 {
-            term(out, v as u8)?;
-            out.write_all(b" to ")?;
-            term(out, map[v])?;
-            out.write_all(b"\n")?;
+    for (v, u) in map.iter().enumerate() {
+        if *u != 255 {
+            write!(out, "{} to {}\n", Term(v as u8), Term(*u))?;
         }
     }
     Ok(())
 }
 
-// A line for each of the n atoms of first.
+// A line for each atom of the first, with the first atom of the second that it goes to.
 fn tell_atoms<W: Write>(
     out: &mut W,
     first: &[u8],
-    n: usize,
     second: &[u8],
-    w: usize,
     map: &[u8; MAP],
-) -> io::Result<()>
-    requires { (1 + n * 7 ≤ length first.now) × (1 + w * 7 ≤ length second.now) }
-{
-    for k in 0..n {
-        let i = 1 + 7 * k;
-        atom(out, first, i)?;
+) -> io::Result<()> {
+    for atom in first.chunks_exact(ATOM) {
+        tell_atom(out, atom)?;
         out.write_all(b" meets ")?;
-        tell_met(out, first, i, second, w, map)?;
+        if let Some(met) = second
+            .chunks_exact(ATOM)
+            .find(|other| goes(map, atom, other))
+        {
+            tell_atom(out, met)?;
+        }
         out.write_all(b"\n")?;
     }
     Ok(())
 }
 
-// How many atoms, its answer record among them, a record has, as it is held inside.
-fn atoms_in(record: &[u8; RECORD]) -> usize
-    ensures { 1 + result * 7 ≤ record_room }
-{
-    let n = record[0];
-    if 12 < n {
-        return 12;
-    }
-    n as usize
+// The atoms of a record, its answer record first, as they are held inside.
+fn atoms(record: &[u8; RECORD]) -> &[u8] {
+    let n = usize::from(record[0].min(12));
+    &record[1..1 + n * ATOM]
 }
 
 // A line for each variable, and one for each atom of first, both told as they are held inside, whatever their width.
@@ -141,16 +116,11 @@ pub fn tell_map<W: Write>(
     w: usize,
     map: &[u8; MAP],
 ) -> io::Result<()> {
-    if !is_record(first, w) {
-        return Ok(());
-    }
-    if !is_record(second, w) {
+    if !is_record(first, w) || !is_record(second, w) {
         return Ok(());
     }
     let one = widened(first, w);
     let two = widened(second, w);
     tell_variables(out, map)?;
-    let n = atoms_in(&one);
-    let m = atoms_in(&two);
-    tell_atoms(out, &one, n, &two, m, map)
+    tell_atoms(out, atoms(&one), atoms(&two), map)
 }

@@ -34,16 +34,12 @@ pub fn show<'a, W: Write>(
     out.write_all(b"\n")
 }
 
+// Writes each byte as a number, a blank before it.
 fn numbers<W: Write>(out: &mut W, bytes: &[u8]) -> io::Result<()> {
     for b in bytes {
-        number(out, *b)?;
+        write!(out, " {b}")?;
     }
     Ok(())
-}
-
-// Writes a byte as a number, a blank before it.
-fn number<W: Write>(out: &mut W, b: u8) -> io::Result<()> {
-    write!(out, " {b}")
 }
 
 // Examples 1 and 2, with their converses.
