@@ -4,7 +4,7 @@ use mathlib.Core.Path.{◌≡◌, refl, sym, ◌∙◌, ap, ap₂, subst}
 use mathlib.Core.Bool.{Bool, cond}
 use mathlib.Core.Logic.{◌⊎◌, inl, inr}
 use mathlib.Core.List.{List, [], ◌++◌}
-use Prim.Native.Nat.{ℕ, zero, suc, ◌^◌, ◌≤◌, ◌<◌}
+use Prim.Native.Nat.{ℕ, zero, suc, ◌+◌, ◌^◌, ◌≤◌, ◌<◌}
 use native.Mathlib.Omega.{arith}
 use borrow.Author.Tests.{lt-ltb, le-ltb}
 use lib.Dec.{ltb}
@@ -32,8 +32,11 @@ use Rattle.exploration.proofs.Given.{whole_given, member_written}
 use Rattle.printing.specs.Printed.{printed}
 use Rattle.covering.specs.Put.{Puts}
 use Rattle.printing.specs.Answer.{text_size, lines_of}
+use Rattle.printing.specs.declared.put.Text.{Text}
+use Rattle.printing.specs.Text.{HasRoom, Adds}
 use Rattle.printing.specs.Printable.{result_in, UnionStands, Printable}
 use Rattle.covering.proofs.Putting.{put_none, put_as}
+use Rattle.printing.proofs.Adding.{adds_as}
 use Rattle.printing.proofs.Longest.{union_most, refusal_most}
 
 in_refusal : (answers n p : ℕ) (W : List ℕ) → 1 ≤ n → result_in answers n p W ≡ refusal n p
@@ -141,15 +144,15 @@ module _ {book out : List ℕ} {number place : ℕ} {after : List ℕ} (given : 
               ap₂ (λ (a n : ℕ). result_in a n place after) (is complete) complete ∙ union_says complete
 
       -- what `print` asks, of a text with room for the longest
-      pub printable : number < 256 → place < 2 ^ 64 → (room : ℕ) → text_size ≤ room
-          → Printable answers number place after room
-      printable small wide room roomy =
+      pub printable : number < 256 → place < 2 ^ 64 → (text : Text) → text.end + text_size ≤ length text.room.now
+          → Printable answers number place after text
+      printable small wide text roomy =
           record {
             stands = λ complete. subst (λ (a : ℕ). UnionStands a after) (sym (is complete)) (union_there complete);
             fits = go (le_or_lt 1 number);
           }
         where
-          go : (1 ≤ number) ⊎ (number < 1) → length (printed (result_in answers number place after)) ≤ room
+          go : (1 ≤ number) ⊎ (number < 1) → HasRoom (printed (result_in answers number place after)) text
           go (inl one) =
               let long = refusal_most number place small wide in
               omega (arith, ap (λ (r : Result). length (printed r)) (in_refusal answers number place after one))
@@ -162,29 +165,29 @@ module _ {book out : List ℕ} {number place : ℕ} {after : List ℕ} (given : 
               )
 
       -- what `print` prints is what is printed for the book
-      pub answered : {text after_text : List ℕ} {end : ℕ}
-          → Puts (printed (result_in answers number place after)) text 0 end after_text
-          → Puts (printed (result book output_size)) text 0 end after_text
-      answered p = put_as (ap printed (sym result_told)) p
+      pub answered : {t u : Text} → Adds (printed (result_in answers number place after)) t u
+          → Adds (printed (result book output_size)) t u
+      answered p = adds_as (ap printed (sym result_told)) p
 
     -- a book that is not refused is sound
     pub complete_sound : number ≡ 0 → SoundBook book
     complete_sound complete = (whole_given given complete).sound
 
--- into a text that is too short nothing is printed
-pub unanswered : (book text : List ℕ) → length text < text_size → Puts (lines_of book (length text)) text 0 0 text
-unanswered book text short = put_as (lines_short book (length text) short) (put_none (omega arith))
-
 -- a book that has no copy in the new form is refused as it is itself
-module _ (book text : List ℕ) (roomy : text_size ≤ length text) where
-  pub answered_refusal : (SoundBook book → ⊥) → {end : ℕ} {after_text : List ℕ}
-      → Puts (printed (refusal (verdict book).number (verdict book).place)) text 0 end after_text
-      → Puts (lines_of book (length text)) text 0 end after_text
-  answered_refusal f p = put_as (lines_long book (length text) roomy ∙ ap printed (result_unsound book output_size (omega arith) f)) p
+pub answered_refusal : (book : List ℕ) → (SoundBook book → ⊥) → {t u : Text}
+    → Adds (printed (refusal (verdict book).number (verdict book).place)) t u → Adds (printed (result book output_size)) t u
+answered_refusal book f p = adds_as (ap printed (result_unsound book output_size (omega arith) f)) p
 
-  -- and what is printed of a copy is what is printed of the book
-  pub answered_copy : (wide : List ℕ) → SoundBook book → SoundBook wide → book_of wide ≡ book_of book
-      → {end : ℕ} {after_text : List ℕ} → Puts (printed (result wide output_size)) text 0 end after_text
-      → Puts (lines_of book (length text)) text 0 end after_text
-  answered_copy wide s t same p =
-      put_as (lines_long book (length text) roomy ∙ ap printed (results_alike book wide s t (sym same) output_size)) p
+-- and what is printed of a copy is what is printed of the book
+pub answered_copy : (book wide : List ℕ) → SoundBook book → SoundBook wide → book_of wide ≡ book_of book → {t u : Text}
+    → Adds (printed (result wide output_size)) t u → Adds (printed (result book output_size)) t u
+answered_copy book wide s t same p = adds_as (ap printed (results_alike book wide s t (sym same) output_size)) p
+
+-- into a text that is too short nothing is printed; into another what is put into a text made of it
+module _ (book text : List ℕ) where
+  pub unanswered : length text < text_size → Puts (lines_of book (length text)) text 0 0 text
+  unanswered short = put_as (lines_short book (length text) short) (put_none (omega arith))
+
+  pub all_answered : text_size ≤ length text → {end : ℕ} {after : List ℕ}
+      → Puts (printed (result book output_size)) text 0 end after → Puts (lines_of book (length text)) text 0 end after
+  all_answered roomy p = put_as (lines_long book (length text) roomy) p

@@ -1,6 +1,7 @@
 -- The laws of printing.
 
--- numbers in decimal; terms, atoms and members
+-- what is put into a text; numbers in decimal; terms, atoms and members
+pub mod Adding
 pub mod Decimal
 pub mod Texts
 -- the whole: what is printed for an answer

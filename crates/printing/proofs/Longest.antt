@@ -17,7 +17,7 @@ use Rattle.printing.specs.Printed.{ascii, marked, separated, term_text, relation
 use Rattle.printing.specs.Printed.{printed, always_text}
 use Rattle.printing.specs.Answer.{text_size}
 use Rattle.printing.proofs.Decimal.{decimal_most}
-use Rattle.printing.proofs.Texts.{var_text, con_text, answer_length, numbered_length, line_length}
+use Rattle.printing.proofs.Texts.{var_text, con_text, answer_text, numbered_text, line_length}
 
 module _ {A : Type 0} where
   gather_most : (f : A → List ℕ) (k : ℕ) (xs : List A) → ((x : A) → x ∈ xs → length (f x) ≤ k)
@@ -57,11 +57,11 @@ relation_most : (r : ℕ) → T (is_relation stored r) → length (relation_text
 relation_most r t = go (relation_cases stored r t)
   where
     below : r < 64 → length (relation_text r) ≤ 3
-    below h = let d = decimal_most 1 r (omega arith) in omega (arith, numbered_length r (λ e. omega arith))
+    below h = let d = decimal_most 1 r (omega arith) in omega (arith, ap length (numbered_text r r (λ e. omega arith) refl))
 
     go : (r < 64) ⊎ (r ≡ answer_relation) → length (relation_text r) ≤ 3
     go (inl h) = below h
-    go (inr e) = omega (arith, answer_length r e)
+    go (inr e) = omega (arith, ap length (answer_text r e))
 
 atom_is : (a : Atom)
     → atom_text a ≡ relation_text a.rel ++ (ascii "(" ++ (separated (ascii ",") term_text a.args ++ ascii ")"))

@@ -1,6 +1,6 @@
 -- Laws of what is printed of terms, atoms and members that stand in bytes: what is put first and what after it, and
 -- what is known of the bytes after it. Assumes nothing.
-use mathlib.Core.Path.{◌≡◌, refl, ◌∙◌, ap, ap₂, subst}
+use mathlib.Core.Path.{◌≡◌, refl, sym, ◌∙◌, ap, ap₂, subst}
 use mathlib.Core.Bool.{Bool, cond}
 use mathlib.Core.List.{List, [], ◌∷◌, ◌++◌}
 use Prim.Native.Nat.{ℕ, zero, suc, ◌+◌, ◌-◌, ◌≤◌, ◌<◌}
@@ -10,9 +10,9 @@ use lib.Dec.{T}
 use lib.ListN.{length, get_or, length-append}
 use Rattle.covering.specs.Lists.{gather}
 use Rattle.covering.specs.Term.{Term, var, con, Question}
-use Rattle.covering.specs.Record.{new_places, stored, term_of, args_at, atom_at, atoms_at, is_atom}
+use Rattle.covering.specs.Record.{new_places, stored, term_of, args_at, atom_at, atoms_at, is_atom, are_atoms}
 use Rattle.covering.proofs.Bytes.{term_var, term_con, atom_first}
-use Rattle.covering.proofs.Places.{args_none, args_step, relation_at, args_at_lem, atoms_none, atoms_more}
+use Rattle.covering.proofs.Places.{args_none, args_step, relation_at, args_at_lem, atoms_none, atoms_more, sound_more}
 use Rattle.covering.proofs.Fitting.{term_is_used}
 use Rattle.covering.proofs.RoundTrip.{stored_apart}
 use Rattle.exploration.specs.Union.{members_from, member_end}
@@ -36,18 +36,12 @@ pub con_text : (n : ℕ) → term_text (con n) ≡ ascii "c" ++ decimal n
 unfolding term_text
 con_text n = refl
 
-module _ (b : ℕ) where
-  pub variable_text : b < 128 → term_text (term_of b) ≡ ascii "v" ++ decimal b
-  variable_text h = ap term_text (term_var b h) ∙ var_text b
+module _ (b n : ℕ) where
+  pub variable_text : b < 128 → n ≡ b → term_text (term_of b) ≡ ascii "v" ++ decimal n
+  variable_text h e = ap term_text (term_var b h) ∙ var_text b ∙ ap (λ k. ascii "v" ++ decimal k) (sym e)
 
-  pub constant_text : 128 ≤ b → term_text (term_of b) ≡ ascii "c" ++ decimal (b - 128)
-  constant_text h = ap term_text (term_con b h) ∙ con_text (b - 128)
-
-  pub variable_length : b < 128 → length (term_text (term_of b)) ≡ 1 + length (decimal b)
-  variable_length h = ap length (variable_text h) ∙ omega arith
-
-  pub constant_length : 128 ≤ b → length (term_text (term_of b)) ≡ 1 + length (decimal (b - 128))
-  constant_length h = ap length (constant_text h) ∙ omega arith
+  pub constant_text : 128 ≤ b → n ≡ b - 128 → term_text (term_of b) ≡ ascii "c" ++ decimal n
+  constant_text h e = ap term_text (term_con b h) ∙ con_text (b - 128) ∙ ap (λ k. ascii "c" ++ decimal k) (sym e)
 
 -- a relation
 module _ (r : ℕ) where
@@ -55,15 +49,9 @@ module _ (r : ℕ) where
   unfolding relation_text
   answer_text e = rw (eq-eqb r answer_relation e)
 
-  pub numbered_text : (r ≡ answer_relation → ⊥) → relation_text r ≡ ascii "r" ++ decimal r
+  pub numbered_text : (n : ℕ) → (r ≡ answer_relation → ⊥) → n ≡ r → relation_text r ≡ ascii "r" ++ decimal n
   unfolding relation_text
-  numbered_text ne = rw (ne_eqb r answer_relation ne)
-
-  pub answer_length : r ≡ answer_relation → length (relation_text r) ≡ 1
-  answer_length e = ap length (answer_text e)
-
-  pub numbered_length : (r ≡ answer_relation → ⊥) → length (relation_text r) ≡ 1 + length (decimal r)
-  numbered_length ne = ap length (numbered_text ne) ∙ omega arith
+  numbered_text n ne e = rw (ne_eqb r answer_relation ne) (ap (λ k. ascii "r" ++ decimal k) (sym e))
 
 -- terms, with a comma before each
 abbrev pub terms_text : List ℕ → ℕ → ℕ → List ℕ
@@ -88,19 +76,13 @@ module _ (B : List ℕ) (i : ℕ) where
         (args_step B i (w - 1)
         ∙ ap (λ (t : Bool). cond t [] (term_of b ∷ args_at B (i + 1) (w - 1))) (eq-eqb b 255 e))
 
-    pub terms_more : 0 < w → (get_or B i 0 ≡ 255 → ⊥)
+    pub terms_more : (j v : ℕ) → j ≡ i + 1 → v ≡ w - 1 → 0 < w → (get_or B i 0 ≡ 255 → ⊥)
         → marked (ascii ",") term_text (args_at B i w)
-        ≡ (ascii "," ++ term_text (term_of (get_or B i 0))) ++ marked (ascii ",") term_text (args_at B (i + 1) (w - 1))
-    terms_more h used =
-        ap (terms_text B i) (less_one w h) ∙ ap (marked (ascii ",") term_text) (args_next (w - 1) used)
-
-    pub terms_length : 0 < w → (get_or B i 0 ≡ 255 → ⊥)
-        → length (marked (ascii ",") term_text (args_at B i w))
-        ≡ 1 + length (term_text (term_of (get_or B i 0))) + length (marked (ascii ",") term_text (args_at B (i + 1) (w - 1)))
-    terms_length h used =
-        ap length (terms_more h used)
-        ∙ length-append (ascii "," ++ term_text (term_of b)) (terms_text B (i + 1) (w - 1))
-        ∙ omega arith
+        ≡ (ascii "," ++ term_text (term_of (get_or B i 0))) ++ marked (ascii ",") term_text (args_at B j v)
+    terms_more j v next less h used =
+        ap (terms_text B i) (less_one w h)
+        ∙ ap (marked (ascii ",") term_text) (args_next (w - 1) used)
+        ∙ ap₂ (λ k m. (ascii "," ++ term_text (term_of b)) ++ terms_text B k m) (sym next) (sym less)
 
 -- a line of two numbers
 module _ (a : List ℕ) (m : ℕ) (b : List ℕ) (n : ℕ) where
@@ -169,18 +151,18 @@ module _ (B : List ℕ) (i n : ℕ) where
   pub atoms_end : n ≡ 0 → marked (ascii " ") atom_text (atoms_at stored B i n) ≡ []
   atoms_end e = ap (marked (ascii " ") atom_text) (atoms_none stored B i n e)
 
-  pub atoms_next : 0 < n
+  pub atoms_next : (j v : ℕ) → j ≡ i + 7 → v ≡ n - 1 → 0 < n
       → marked (ascii " ") atom_text (atoms_at stored B i n)
-      ≡ (ascii " " ++ atom_text (atom_at stored B i)) ++ marked (ascii " ") atom_text (atoms_at stored B (i + 7) (n - 1))
-  atoms_next h = ap (marked (ascii " ") atom_text) (atoms_more stored B i n h)
+      ≡ (ascii " " ++ atom_text (atom_at stored B i)) ++ marked (ascii " ") atom_text (atoms_at stored B j v)
+  atoms_next j v next less h =
+      ap (marked (ascii " ") atom_text) (atoms_more stored B i n h)
+      ∙ ap₂ (λ k m. (ascii " " ++ atom_text (atom_at stored B i)) ++ atoms_text B k m) (sym next) (sym less)
 
-  pub atoms_length : 0 < n
-      → length (marked (ascii " ") atom_text (atoms_at stored B i n))
-      ≡ 1 + length (atom_text (atom_at stored B i)) + length (marked (ascii " ") atom_text (atoms_at stored B (i + 7) (n - 1)))
-  atoms_length h =
-      ap length (atoms_next h)
-      ∙ length-append (ascii " " ++ atom_text (atom_at stored B i)) (atoms_text B (i + 7) (n - 1))
-      ∙ omega arith
+  -- the others are atoms
+  pub atoms_rest : (j v : ℕ) → j ≡ i + 7 → v ≡ n - 1 → 0 < n → T (are_atoms stored B i n) → T (are_atoms stored B j v)
+  atoms_rest j v next less h s =
+      subst (λ k. T (are_atoms stored B k v)) (sym next)
+      (subst (λ m. T (are_atoms stored B (i + 7) m)) (sym less) (sound_more stored B i n h s).1)
 
 -- atoms with a space between two
 module _ (B : List ℕ) (i n : ℕ) where
@@ -246,24 +228,23 @@ module _ (answers : ℕ) (W : List ℕ) (i n : ℕ) where
   members_end e =
       ap (λ (k : ℕ). gather member_line (members_from new_places answers W i k)) e ∙ ap (gather member_line) (member_none new_places answers W i)
 
-  pub members_next : 0 < n
-      → gather member_line (members_from new_places answers W i n)
-      ≡ member_line (atoms_at stored W (i + 1) (answers + byte W i))
-      ++ gather member_line (members_from new_places answers W (member_end new_places answers W i) (n - 1))
-  members_next h =
-      ap (λ (k : ℕ). gather member_line (members_from new_places answers W i k)) (less_one n h)
-      ∙ ap (gather member_line) (member_next new_places answers W i (n - 1))
+  -- the first of them, and the others from j on
+  module _ (j v : ℕ) (next : j ≡ member_end new_places answers W i) (less : v ≡ n - 1) (h : 0 < n) where
+    pub members_next : gather member_line (members_from new_places answers W i n)
+        ≡ member_line (atoms_at stored W (i + 1) (answers + byte W i))
+        ++ gather member_line (members_from new_places answers W j v)
+    members_next =
+        ap (λ (k : ℕ). gather member_line (members_from new_places answers W i k)) (less_one n h)
+        ∙ ap (gather member_line) (member_next new_places answers W i (n - 1))
+        ∙ ap₂
+        (λ k m.
+        member_line (atoms_at stored W (i + 1) (answers + byte W i)) ++ gather member_line (members_from new_places answers W k m))
+        (sym next) (sym less)
 
-  pub members_length : 0 < n
-      → length (gather member_line (members_from new_places answers W i n))
-      ≡ length (member_line (atoms_at stored W (i + 1) (answers + byte W i)))
-      + length (gather member_line (members_from new_places answers W (member_end new_places answers W i) (n - 1)))
-  members_length h =
-      ap length (members_next h)
-      ∙ length-append (member_line (atoms_at stored W (i + 1) (answers + byte W i)))
-      (gather member_line (members_from new_places answers W (member_end new_places answers W i) (n - 1)))
-
-  -- the first of them, and the others
-  pub first_stands : 0 < n → WrittenAt new_places answers W i n
-      → MemberAt new_places answers W i × WrittenAt new_places answers W (member_end new_places answers W i) (n - 1)
-  first_stands h s = written_next new_places answers W i (n - 1) (subst (WrittenAt new_places answers W i) (less_one n h) s)
+    pub first_stands : WrittenAt new_places answers W i n → MemberAt new_places answers W i × WrittenAt new_places answers W j v
+    first_stands s =
+        let both = written_next new_places answers W i (n - 1) (subst (WrittenAt new_places answers W i) (less_one n h) s) in (
+          both.0,
+          subst (λ k. WrittenAt new_places answers W k v) (sym next)
+              (subst (WrittenAt new_places answers W (member_end new_places answers W i)) (sym less) both.1),
+        )

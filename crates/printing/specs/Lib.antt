@@ -2,5 +2,6 @@
 pub mod Printed
 pub mod Answer
 pub mod Examples
--- What only the contract of this crate's own `print` is said with.
+-- What only the contracts of this crate's own functions are said with.
+pub mod Text
 pub mod Printable

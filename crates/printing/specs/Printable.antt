@@ -6,6 +6,8 @@ use Rattle.exploration.specs.Answer.{Result, union, refusal}
 use Rattle.exploration.specs.Standing.{WrittenAt}
 use Rattle.exploration.specs.Union.{members_of, explored_of}
 use Rattle.printing.specs.Printed.{ascii, printed}
+use Rattle.printing.specs.declared.put.Text.{Text}
+use Rattle.printing.specs.Text.{HasRoom}
 
 -- The result that a number, a place and an output say, where each member has so many answer records and six places an
 -- atom: "0 means complete",
@@ -25,7 +27,7 @@ pub record UnionStands (answers : ℕ) (out : List ℕ) : Type 0 where
   pub header : 8 ≤ length out
   pub members : WrittenAt new_places answers out (word out 4) (word out 0)
 
--- what a text of so many bytes has room for
-pub record Printable (answers number place : ℕ) (out : List ℕ) (room : ℕ) : Type 0 where
+-- what a text has room for
+pub record Printable (answers number place : ℕ) (out : List ℕ) (text : Text) : Type 0 where
   pub stands : number ≡ 0 → UnionStands answers out
-  pub fits : length (printed (result_in answers number place out)) ≤ room
+  pub fits : HasRoom (printed (result_in answers number place out)) text

@@ -1,65 +1,79 @@
-// Bytes, numbers and terms put into a text. Each function puts its bytes at `at` and answers where they end.
-ghost use Rattle.std.specs.Prelude.{◌+◌, ◌≤◌, ◌<◌, [], ◌∷◌, length};
+// A text, and bytes, numbers and terms put into it.
+ghost use Rattle.std.specs.Prelude.{◌≡◌, ◌<◌, [], ◌∷◌};
 ghost use Rattle.covering.specs.Record.{term_of};
 ghost use Rattle.printing.specs.Printed.{decimal, term_text, relation_text, figure};
-ghost use Rattle.covering.specs.Put.{Puts};
+ghost use Rattle.printing.specs.Text.{HasRoom, Adds};
 
-// Puts the bytes.
-pub fn put(text: &mut [u8], at: usize, bytes: &[u8]) -> usize
-    requires { at + length bytes.now ≤ length text.old }
-    ensures { Puts bytes.now text.old at result text.new }
-{
-    let n = bytes.len();
-    let mut i = 0;
-    while i < n {
-        text[at + i] = bytes[i];
-        i += 1;
-    }
-    at + n
+// A text that bytes are put into, one after the other: the bytes that it has room in, and where those put so far end.
+#[derive(Drop)]
+pub struct Text<'a> {
+    pub room: &'a mut [u8],
+    pub end: usize,
 }
 
-// Puts the digit n.
-fn put_digit(text: &mut [u8], at: usize, n: usize) -> usize
-    requires { (n < 10) × (at + 1 ≤ length text.old) }
-    ensures { Puts (figure n ∷ []) text.old at result text.new }
-{
-    text[at] = (48 + n) as u8;
-    at + 1
-}
-
-// Puts the number n in decimal: its tenth first, then its last digit.
-pub fn put_decimal(text: &mut [u8], at: usize, n: usize) -> usize
-    requires { at + length (decimal n) ≤ length text.old }
-    ensures { Puts (decimal n) text.old at result text.new }
-{
-    if n < 10 {
-        return put_digit(text, at, n);
+impl<'a> Text<'a> {
+    // A text with nothing put into it yet.
+    pub fn new(room: &'a mut [u8]) -> Text<'a>
+        ensures room { result.room.now ≡ room.old }
+        ensures same { result.room.ghost_name ≡ room.entry.ghost_name }
+        ensures end { result.end ≡ 0 }
+    {
+        Text { room, end: 0 }
     }
-    let end = put_decimal(text, at, n / 10);
-    put_digit(text, end, n % 10)
-}
 
-// Puts the term that a place holds.
-pub fn put_term(text: &mut [u8], at: usize, b: u8) -> usize
-    requires { at + length (term_text (term_of b)) ≤ length text.old }
-    ensures { Puts (term_text (term_of b)) text.old at result text.new }
-{
-    if b < 128 {
-        let variable = put(text, at, b"v");
-        return put_decimal(text, variable, b as usize);
+    // Puts the bytes.
+    pub fn put(&mut self, bytes: &[u8])
+        requires { HasRoom bytes.now self.old }
+        ensures { Adds bytes.now self.old self.new }
+    {
+        let end = self.end + bytes.len();
+        self.room[self.end..end].copy_from_slice(bytes);
+        self.end = end;
     }
-    let constant = put(text, at, b"c");
-    put_decimal(text, constant, (b - 128) as usize)
-}
 
-// Puts an atom's relation: its number, or the letter of an answer record.
-pub fn put_relation(text: &mut [u8], at: usize, r: u8) -> usize
-    requires { at + length (relation_text r) ≤ length text.old }
-    ensures { Puts (relation_text r) text.old at result text.new }
-{
-    if r == 255 {
-        return put(text, at, b"a");
+    // Puts the digit n.
+    fn put_digit(&mut self, n: usize)
+        requires { (n < 10) × HasRoom (figure n ∷ []) self.old }
+        ensures { Adds (figure n ∷ []) self.old self.new }
+    {
+        self.put(&[b'0' + n as u8]);
     }
-    let end = put(text, at, b"r");
-    put_decimal(text, end, r as usize)
+
+    // Puts the number n in decimal: its tenth first, then its last digit. By hand, since `write!` says what it wrote
+    // only where it did not fail, and what `answer` promises has no such case.
+    pub fn put_decimal(&mut self, n: usize)
+        requires { HasRoom (decimal n) self.old }
+        ensures { Adds (decimal n) self.old self.new }
+    {
+        if n < 10 {
+            return self.put_digit(n);
+        }
+        self.put_decimal(n / 10);
+        self.put_digit(n % 10);
+    }
+
+    // Puts the term that a place holds.
+    pub fn put_term(&mut self, b: u8)
+        requires { HasRoom (term_text (term_of b)) self.old }
+        ensures { Adds (term_text (term_of b)) self.old self.new }
+    {
+        if b < 128 {
+            self.put(b"v");
+            return self.put_decimal(usize::from(b));
+        }
+        self.put(b"c");
+        self.put_decimal(usize::from(b - 128));
+    }
+
+    // Puts an atom's relation: its number, or the letter of an answer record.
+    pub fn put_relation(&mut self, r: u8)
+        requires { HasRoom (relation_text r) self.old }
+        ensures { Adds (relation_text r) self.old self.new }
+    {
+        if r == 255 {
+            return self.put(b"a");
+        }
+        self.put(b"r");
+        self.put_decimal(usize::from(r));
+    }
 }

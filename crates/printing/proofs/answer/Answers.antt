@@ -1,51 +1,13 @@
--- `printing::answer` meets its contract: the text is too short, or the book has no copy in the new form and its refusal is
--- printed, or its copy is run and the answer printed.
-use native.Mathlib.Omega.{arith}
-use mathlib.Core.Path.{sym, ap₂}
-use Prim.Native.Nat.{ℕ}
-use lib.Seq.{length-take-le}
-use Rattle.covering.proofs.Putting.{put_as}
-use Rattle.reading.proofs.NewCopy.{copy_given, copy_refused}
-use Rattle.exploration.specs.Answer.{refusal}
-use Rattle.printing.specs.Printed.{printed}
-use Rattle.printing.proofs.Longest.{refusal_most}
-use Rattle.printing.proofs.Answered.{unanswered, answered_refusal, answered_copy}
+-- `printing::answer` meets its contract: the text is too short, or the answer is put into a text made of it.
+use Rattle.std.proofs.Common.{rules}
+use Rattle.printing.proofs.Adding.{made}
+use Rattle.printing.proofs.Answered.{unanswered, all_answered}
 use Rattle.printing.proofs.answer.Goals as goal
 
 pub returns-then-text-lt-TEXT : goal.returns-then-text-lt-TEXT
 returns-then-text-lt-TEXT c = unanswered _ _ c.if-text-lt-TEXT.true
 
-pub put_line-requires : goal.put_line-requires
-put_line-requires c =
-    let n = c.to_new-copy.result in
-    omega (arith, refusal_most n.number n.place (omega (arith, c.to_new-copy.type_inv)) (omega (arith, c.to_new-copy.type_inv)), c.if-text-lt-TEXT.false)
-
-pub returns-then-copy-ne0 : goal.returns-then-copy-ne0
-returns-then-copy-ne0 c =
-    let a = c.args in
-    let r = copy_refused a.book.now _ c.to_new-copy.ensures (omega arith) c.if-copy-ne0.true in
-    answered_refusal a.book.now a.text.now (omega (arith, c.if-text-lt-TEXT.false)) r.unsound
-    (put_as (ap₂ (λ (n q : ℕ). printed (refusal n q)) (sym r.number_is) (sym r.place_is)) c.put_line.ensures)
-
-pub slice_bounds-wide-end : goal.slice_bounds-wide-end
-slice_bounds-wide-end c =
-    let a = c.args in
-    (copy_given a.book.now _ c.to_new-copy.ensures (omega arith) c.if-copy-ne0.false).within
-
-pub slice_bounds-answer_new-end : goal.slice_bounds-answer_new-end
-slice_bounds-answer_new-end c =
-    let a = c.args in
-    sym (length-take-le _ _ (copy_given a.book.now _ c.to_new-copy.ensures (omega arith) c.if-copy-ne0.false).within)
-
-pub answer_new-requires : goal.answer_new-requires
-answer_new-requires c =
-    let a = c.args in
-    let g = copy_given a.book.now _ c.to_new-copy.ensures (omega arith) c.if-copy-ne0.false in
-    (g.copy.form, omega (arith, c.if-text-lt-TEXT.false))
-
 pub returns : goal.returns
 returns c =
-    let a = c.args in
-    let g = copy_given a.book.now _ c.to_new-copy.ensures (omega arith) c.if-copy-ne0.false in
-    answered_copy a.book.now a.text.now (omega (arith, c.if-text-lt-TEXT.false)) _ g.sound g.copy.sound g.copy.means
-    c.answer_new.ensures
+    let made_of = c.new-lines.ensures in
+    all_answered _ _ c.if-text-lt-TEXT.false (made made_of.room made_of.end (search rules) c.answer_any.ensures)

@@ -2,25 +2,9 @@
 use native.Mathlib.Omega.{arith}
 use mathlib.Core.Path.{ap}
 use lib.ListN.{length}
-use Rattle.printing.specs.Printed.{ascii, line}
-use Rattle.covering.proofs.Putting.{put_as, then}
+use Rattle.printing.proofs.Adding.{adds_as, then}
 use Rattle.printing.proofs.Results.{Words, refusal_text, union_text, union_length, stands_there}
-use Rattle.printing.proofs.print.Lts as lts
-use Rattle.printing.proofs.print.Reads as reads
-use Rattle.printing.proofs.print.Tie as tie
 use Rattle.printing.proofs.print.Goals as goal
-
-abbrev After-word3 : Type 0
-After-word3 = lts.After-word3 tie.the-claims reads.Pre reads.Post
-
-words : (c : After-word3)
-    → Words c.args.output.now c.word-members.result c.word-explored.result c.word-first.result
-words c =
-    record {
-      members = c.word-members.ensures;
-      explored = c.word-explored.ensures;
-      first = c.word-first.ensures;
-    }
 
 pub put_line-requires : goal.put_line-requires
 put_line-requires c =
@@ -30,7 +14,7 @@ put_line-requires c =
 pub returns-then-number-ne0 : goal.returns-then-number-ne0
 returns-then-number-ne0 c =
     let a = c.args in
-    put_as (refusal_text a.answers a.number a.place a.output.now c.if-number-ne0.true) c.put_line.ensures
+    adds_as (refusal_text a.answers a.number a.place a.output.now c.if-number-ne0.true) c.put_line.ensures
 
 pub word-members-requires : goal.word-members-requires
 word-members-requires c = omega (arith, (c.requires.stands (omega arith)).header)
@@ -41,23 +25,23 @@ word-explored-requires c = omega (arith, (c.requires.stands (omega arith)).heade
 pub word-first-requires : goal.word-first-requires
 word-first-requires c = omega (arith, (c.requires.stands (omega arith)).header)
 
-pub put_line-end-requires : goal.put_line-end-requires
-put_line-end-requires c =
+pub put_line-requires-2 : goal.put_line-requires-2
+put_line-requires-2 c =
     let a = c.args in
-    omega (arith, c.requires.fits, union_length a.answers a.number a.place a.output.now (words c.before.before.before.before.before.before) (omega arith))
+    let words : Words c.args.output.now c.word-members.result c.word-explored.result c.word-first.result = record { members = c.word-members.ensures; explored = c.word-explored.ensures; first = c.word-first.ensures } in
+    omega (arith, c.requires.fits, union_length a.answers a.number a.place a.output.now words (omega arith))
 
 pub put_members-requires : goal.put_members-requires
 put_members-requires c =
-    let a = c.args in (
-      stands_there (words c.before.before.before.before.before.before.before.before.before.before) (c.requires.stands (omega arith)),
-      omega (arith, c.requires.fits, union_length a.answers a.number a.place a.output.now (words c.before.before.before.before.before.before.before.before.before.before) (omega arith)),
+    let a = c.args in
+    let words : Words c.args.output.now c.word-members.result c.word-explored.result c.word-first.result = record { members = c.word-members.ensures; explored = c.word-explored.ensures; first = c.word-first.ensures } in (
+      stands_there words (c.requires.stands (omega arith)),
+      omega (arith, c.requires.fits, union_length a.answers a.number a.place a.output.now words (omega arith)),
     )
 
 pub returns : goal.returns
 returns c =
     let a = c.args in
-    let m = c.word-members.result in
-    let e = c.word-explored.result in
-    put_as (union_text a.answers a.number a.place a.output.now (words c.before.before.before.before.before.before.before.before.before.before.before.before.before) (omega arith))
-    (then {a = line (ascii "members ") m (ascii " explored ") e} c.put_line-end.ensures
-    c.put_members.ensures)
+    let words : Words c.args.output.now c.word-members.result c.word-explored.result c.word-first.result = record { members = c.word-members.ensures; explored = c.word-explored.ensures; first = c.word-first.ensures } in
+    adds_as (union_text a.answers a.number a.place a.output.now words (omega arith))
+    (then c.put_line-2.ensures c.put_members.ensures)

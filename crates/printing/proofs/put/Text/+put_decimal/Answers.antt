@@ -1,9 +1,9 @@
--- `printing::put::put_decimal` meets its contract: the tenth's digits and the last digit. The measure is the number.
+-- `printing::put::Text::put_decimal` meets its contract: the tenth's digits and the last digit. The measure is the number.
 use borrow.Author.Rules.{rules}
 use native.Mathlib.Omega.{arith}
-use Rattle.covering.proofs.Putting.{put_as, then}
+use Rattle.printing.proofs.Adding.{adds_as, then}
 use Rattle.printing.proofs.Decimal.{decimal_one, decimal_more, one_length, more_length}
-use Rattle.printing.proofs.put.+put_decimal.Goals as goal
+use Rattle.printing.proofs.put.Text.+put_decimal.Goals as goal
 
 pub put_digit-requires : goal.put_digit-requires
 put_digit-requires t c =
@@ -11,10 +11,10 @@ put_digit-requires t c =
     (search rules, omega (arith, one_length n (search rules)))
 
 pub returns-then-n-lt10 : goal.returns-then-n-lt10
-returns-then-n-lt10 t c = put_as (decimal_one c.args.n (search rules)) c.put_digit.ensures
+returns-then-n-lt10 t c = adds_as (decimal_one c.args.n (search rules)) c.put_digit.ensures
 
-pub put_decimal-end-requires : goal.put_decimal-end-requires
-put_decimal-end-requires t c =
+pub put_decimal-requires : goal.put_decimal-requires
+put_decimal-requires t c =
     let n = c.args.n in
     (omega arith, omega (arith, more_length n (search rules)))
 
@@ -26,4 +26,4 @@ put_digit-requires-2 t c =
 pub returns : goal.returns
 returns t c =
     let n = c.args.n in
-    put_as (decimal_more n (search rules)) (then c.put_decimal-end.ensures c.put_digit-2.ensures)
+    adds_as (decimal_more n (search rules)) (then c.put_decimal.ensures c.put_digit-2.ensures)

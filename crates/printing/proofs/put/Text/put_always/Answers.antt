@@ -1,15 +1,15 @@
--- `printing::lines::put_always` meets its contract.
+-- `printing::put::Text::put_always` meets its contract.
 use native.Mathlib.Omega.{arith}
 use mathlib.Core.Path.{ap}
 use lib.ListN.{length}
-use Rattle.covering.proofs.Putting.{put_none, put_as}
+use Rattle.printing.proofs.Adding.{adds_none, adds_as}
 use Rattle.printing.proofs.Texts.{always_not, always_alone, always_after}
-use Rattle.printing.proofs.lines.put_always.Goals as goal
+use Rattle.printing.proofs.put.Text.put_always.Goals as goal
 
 pub returns-then-count-ne0 : goal.returns-then-count-ne0
 returns-then-count-ne0 c =
     let a = c.args in
-    put_as (always_not a.count a.answers c.if-count-ne0.true) (put_none (omega arith))
+    adds_as (always_not a.count a.answers c.if-count-ne0.true) (adds_none (omega arith))
 
 pub put-requires : goal.put-requires
 put-requires c =
@@ -19,7 +19,7 @@ put-requires c =
 pub returns-then-answers-eq0 : goal.returns-then-answers-eq0
 returns-then-answers-eq0 c =
     let a = c.args in
-    put_as (always_alone a.count a.answers (omega arith) (omega arith)) c.put.ensures
+    adds_as (always_alone a.count a.answers (omega arith) (omega arith)) c.put.ensures
 
 pub put-requires-2 : goal.put-requires-2
 put-requires-2 c =
@@ -29,4 +29,4 @@ put-requires-2 c =
 pub returns : goal.returns
 returns c =
     let a = c.args in
-    put_as (always_after a.count a.answers (omega arith) c.if-answers-eq0.false) c.put-2.ensures
+    adds_as (always_after a.count a.answers (omega arith) c.if-answers-eq0.false) c.put-2.ensures

@@ -1,18 +1,18 @@
--- `printing::lines::put_all` meets its contract.
+-- `printing::put::Text::put_all` meets its contract.
 use native.Mathlib.Omega.{arith}
 use Rattle.covering.specs.Record.{stored}
 use Rattle.covering.proofs.Places.{sound_more}
-use Rattle.covering.proofs.Putting.{put_none, put_as, then}
+use Rattle.printing.proofs.Adding.{adds_none, adds_as, then}
 use Rattle.printing.proofs.Texts.{all_none, all_some, all_length}
-use Rattle.printing.proofs.lines.put_all.Goals as goal
+use Rattle.printing.proofs.put.Text.put_all.Goals as goal
 
 pub returns-then-n-eq0 : goal.returns-then-n-eq0
 returns-then-n-eq0 c =
     let a = c.args in
-    put_as (all_none a.output.now a.i a.n c.if-n-eq0.true) (put_none (omega arith))
+    adds_as (all_none a.output.now a.i a.n c.if-n-eq0.true) (adds_none (omega arith))
 
-pub put_atom-rest-requires : goal.put_atom-rest-requires
-put_atom-rest-requires c =
+pub put_atom-requires : goal.put_atom-requires
+put_atom-requires c =
     let a = c.args in
     let sound = sound_more stored a.output.now a.i a.n (omega arith) c.requires.0.sound in
     (omega (arith, c.requires.0.fits), sound.0, omega (arith, all_length a.output.now a.i a.n (omega arith)))
@@ -29,4 +29,4 @@ put_atoms-requires c =
 pub returns : goal.returns
 returns c =
     let a = c.args in
-    put_as (all_some a.output.now a.i a.n (omega arith)) (then c.put_atom-rest.ensures c.put_atoms.ensures)
+    adds_as (all_some a.output.now a.i a.n (omega arith)) (then c.put_atom.ensures c.put_atoms.ensures)

@@ -1,5 +1,0 @@
--- `printing::put::put_decimal` meets its contract: the tenth's digits and the last digit. The measure is the number.
-use Rattle.printing.proofs.put.+put_decimal.Given as goal
-
-abbrev pub decreases-put_decimal : goal.decreases-put_decimal
-decreases-put_decimal l = l.n
