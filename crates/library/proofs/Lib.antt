@@ -1,3 +1,2 @@
--- The laws that the exports cite, and what each contract determines.
-pub mod Lending
+-- What each contract determines.
 pub mod Determined

@@ -3,7 +3,7 @@
 // its bytes as that has room for.
 #![tactic(auto)]
 
-ghost use Rattle.std.specs.Prelude.{◌≡◌, cond, ℕ, ltb, length};
+ghost use Rattle.std.specs.Prelude.{◌≡◌, ℕ};
 ghost use Rattle.covering.specs.Desk.{covers_answer, covers_map, kept_answer, kept_map};
 ghost use Rattle.reading.specs.Copy.{CopiesNew, CopiesOld};
 ghost use Rattle.exploration.specs.Answer.{Answers};
@@ -56,26 +56,12 @@ pub extern "C" fn rauntiko_to_old(book: &[u8], out: &mut [u8], place: &mut usize
     copied.number
 }
 
-// The lesser of two numbers.
-fn lesser(a: usize, b: usize) -> usize
-    ensures { result ≡ cond (ltb a b) a b }
-{
-    if a < b {
-        return a;
-    }
-    b
-}
-
 // Copies as many of the bytes as there is room for.
 fn lend(bytes: &[u8], room: &mut [u8])
     ensures { room.new ≡ lent bytes.now room.old }
 {
-    let n = lesser(room.len(), bytes.len());
-    let mut i = 0;
-    while i < n {
-        room[i] = bytes[i];
-        i += 1;
-    }
+    let n = room.len().min(bytes.len());
+    room[..n].copy_from_slice(&bytes[..n]);
 }
 
 // Whether the first record covers the second: 0 no, 1 yes, 2 the first is malformed, 3 the second is; and the first map.
