@@ -13,7 +13,8 @@ use std::io::Read;
 pub const LOOKED_AT: usize = 65536;
 
 // Reads until the slice is full or the input ends, and answers how many bytes it put at the slice's start: the front of
-// what the reader has, as much as fits. A read that fails ends it with its error.
+// what the reader has, as much as fits. A read that fails ends it with its error. A loop of its own: `read_exact` does not
+// say how much it read where the input ends, and `read_to_end` asks for a heap, which this project has not.
 pub fn fill<R: Read>(reader: &mut R, into: &mut [u8]) -> io::Result<usize>
     ensures bound { ReadsAtMost result into.new }
     ensures len { length into.new ≡ length into.old }
@@ -39,7 +40,7 @@ pub fn wide(x: u8) -> usize
     ensures value { result ≡ x }
     ensures small { result < 256 }
 {
-    x as usize
+    usize::from(x)
 }
 
 // The number in four bytes, the low one first.
@@ -47,5 +48,5 @@ pub fn size(s: &[u8; 4]) -> usize
     ensures value { result ≡ low_first s.now }
     ensures small { result < 2 ^ 32 }
 {
-    wide(s[0]) + 256 * (wide(s[1]) + 256 * (wide(s[2]) + 256 * wide(s[3])))
+    u32::from_le_bytes(*s) as usize
 }
