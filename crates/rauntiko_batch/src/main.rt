@@ -3,7 +3,7 @@
 // all there is left out.
 #![tactic(auto)]
 
-ghost use Rattle.std.specs.Prelude.{◌≡◌, ◌<◌, ◌≤◌, ◌^◌, List, ℕ, length, min, IfOk, OnOk, IfSome};
+ghost use Rattle.std.specs.Prelude.{◌≡◌, ◌<◌, ◌≤◌, ◌^◌, List, ℕ, length, IfOk, OnOk, IfSome};
 ghost use Rattle.std.specs.Io.KnownBytes.{Appends};
 ghost use Rattle.rauntiko_batch.specs.Batch.{Skips, ReadsFirst, AnswersFirst, Answered};
 ghost use Rattle.input.specs.Looked.{looked_at};
@@ -12,13 +12,8 @@ use input::{LOOKED_AT, fill, size};
 use std::io;
 use std::io::{Read, Write};
 
-fn least(a: usize, b: usize) -> usize
-    ensures { result ≡ min a b }
-{
-    if a < b { a } else { b }
-}
-
-// Reads so many bytes for nothing, and answers whether they were there.
+// Reads so many bytes for nothing, and answers whether they were there. A loop of its own: `io::copy` from a `take` to a
+// `sink` does not say what the reader has left.
 fn skip<R: Read>(reader: &mut R, n: usize) -> io::Result<bool>
     ensures { IfOk result (λ there. Skips
         n
@@ -28,7 +23,7 @@ fn skip<R: Read>(reader: &mut R, n: usize) -> io::Result<bool>
 {
     let mut left = n;
     while 0 < left {
-        let step = least(left, 4096);
+        let step = left.min(4096);
         let mut bytes = [0u8; 4096];
         let got = fill(reader, &mut bytes[..step])?;
         if got < step {
@@ -55,7 +50,7 @@ fn read_book<R: Read>(reader: &mut R, book: &mut [u8; LOOKED_AT]) -> io::Result<
         return Ok(None);
     }
     let length = size(&head);
-    let kept = least(length, LOOKED_AT);
+    let kept = length.min(LOOKED_AT);
     let got = fill(reader, &mut book[..kept])?;
     if got < kept {
         return Ok(None);

@@ -10,7 +10,7 @@ loop-left-init g c = (0, omega arith, skip_none (g.R.Read.remaining c.args.reade
 pub loop-left-preserved : goal.loop-left-preserved
 loop-left-preserved g c =
     let done = c.loop-left.invariant.0 in
-    let step = c.least-step.result in
+    let step = c.min-step.result in
     let read = take c.in_ok-got.got c.fill.new.into in
     let room : length c.fill.new.into ≡ step = search rules in
     let fits : step ≤ c.loop-left.left = search rules in
@@ -30,7 +30,7 @@ returns g c =
 pub returns-then-got-step : goal.returns-then-got-step
 returns-then-got-step g c =
     let done = c.loop-left.invariant.0 in
-    let step = c.least-step.result in
+    let step = c.min-step.result in
     let read = take c.in_ok-got.got c.fill.new.into in
     let room : length c.fill.new.into ≡ step = search rules in
     let fits : step ≤ c.loop-left.left = search rules in
