@@ -5,11 +5,33 @@
 
 ghost use Rattle.std.specs.Prelude.{◌≡◌, ℕ};
 ghost use Rattle.covering.specs.Desk.{covers_answer, covers_map, kept_answer, kept_map};
+ghost use Rattle.reading.specs.Told.{number_told, place_told};
 ghost use Rattle.reading.specs.Copy.{CopiesNew, CopiesOld};
 ghost use Rattle.exploration.specs.Answer.{Answers};
 ghost use Rattle.library.specs.Lent.{lent};
 
 use cover::MAP;
+use reading::Refused;
+
+// The number of an answer: 0 means complete.
+fn number_in(answer: Result<usize, Refused>) -> u8
+    ensures { result ≡ number_told answer }
+{
+    match answer {
+        Ok(_) => 0,
+        Err(refused) => u8::from(refused.reason),
+    }
+}
+
+// The place of an answer: of a complete one the length written.
+fn place_in(answer: Result<usize, Refused>) -> usize
+    ensures { result ≡ place_told answer }
+{
+    match answer {
+        Ok(len) => len,
+        Err(refused) => refused.place,
+    }
+}
 
 // The union of a book's question, or why there is none; its place.
 #[unsafe(no_mangle)]
@@ -22,8 +44,8 @@ pub extern "C" fn rauntiko_run(book: &[u8], out: &mut [u8], place: &mut usize) -
         out.new }
 {
     let answer = explore::run(book, out);
-    *place = answer.place;
-    answer.number
+    *place = place_in(answer);
+    number_in(answer)
 }
 
 // The book in the new form: refused 1 under 2,003 bytes of room, then as the book itself is; its place.
@@ -37,8 +59,8 @@ pub extern "C" fn rauntiko_to_new(book: &[u8], out: &mut [u8], place: &mut usize
         out.new }
 {
     let copy = forms::to_new(book, out);
-    *place = copy.place;
-    copy.number
+    *place = place_in(copy);
+    number_in(copy)
 }
 
 // The book in the old form: the same, and 13 where it has none.
@@ -52,8 +74,8 @@ pub extern "C" fn rauntiko_to_old(book: &[u8], out: &mut [u8], place: &mut usize
         out.new }
 {
     let copied = forms::to_old(book, out);
-    *place = copied.place;
-    copied.number
+    *place = place_in(copied);
+    number_in(copied)
 }
 
 // Copies as many of the bytes as there is room for.

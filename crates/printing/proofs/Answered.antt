@@ -126,24 +126,37 @@ module _ {book out : List ℕ} {number place : ℕ} {after : List ℕ} (given : 
           fits
           (λ M m. member_few book w.sound (kind given complete M (in_run M m)))
 
+      -- what `print` asks, of a text with room for the longest, and what it prints of it
+      module _ (answers : ℕ) (is : answers ≡ answers_of book) where
+        pub asked : (text : Text) → text.end + text_size ≤ length text.room.now → UnionStands answers after
+            × HasRoom (printed (union (members_of new_places answers after) (explored_of after))) text
+        asked text roomy =
+            subst
+            (λ (a : ℕ).
+            UnionStands a after × HasRoom (printed (union (members_of new_places a after) (explored_of after))) text)
+            (sym is) (union_there, omega (arith, union_fits))
+
+        pub union_answered : {t u : Text} → Adds (printed (union (members_of new_places answers after) (explored_of after))) t u
+            → Adds (printed (result book output_size)) t u
+        union_answered p =
+            adds_as
+            (ap printed
+            (sym union_says
+            ∙ ap (λ (a : ℕ). union (members_of new_places a after) (explored_of after)) (sym is)))
+            p
+
     module _ (one : 1 ≤ number) where
       refusal_says : refusal number place ≡ result book output_size
       refusal_says =
           sym ((refuses_exactly book (length out) number place).1 ((refused_exactly given number place one).0 (refl, refl)))
           ∙ ap (result book) sized
 
-    -- the number, the place and the output say the book's result, with as many answer records as the question has
-    module _ (answers : ℕ) (is : number ≡ 0 → answers ≡ answers_of book) where
-      result_told : result_in answers number place after ≡ result book output_size
-      result_told = go (le_or_lt 1 number)
-        where
-          go : (1 ≤ number) ⊎ (number < 1) → result_in answers number place after ≡ result book output_size
-          go (inl one) = in_refusal answers number place after one ∙ refusal_says one
-          go (inr none) =
-              let complete : number ≡ 0 = omega arith in
-              ap₂ (λ (a n : ℕ). result_in a n place after) (is complete) complete ∙ union_says complete
+      pub refusal_answered : {t u : Text} → Adds (printed (refusal number place)) t u → Adds (printed (result book output_size)) t u
+      refusal_answered p = adds_as (ap printed (sym refusal_says)) p
 
-      -- what `print` asks, of a text with room for the longest
+    -- a number, a place and an output that say the book's result stand and fit, with as many answer records as the
+    -- question has
+    module _ (answers : ℕ) (is : number ≡ 0 → answers ≡ answers_of book) where
       pub printable : number < 256 → place < 2 ^ 64 → (text : Text) → text.end + text_size ≤ length text.room.now
           → Printable answers number place after text
       printable small wide text roomy =
@@ -163,11 +176,6 @@ module _ {book out : List ℕ} {number place : ℕ} {after : List ℕ} (given : 
                 arith,
                 ap₂ (λ (a n : ℕ). length (printed (result_in a n place after))) (is complete) complete,
               )
-
-      -- what `print` prints is what is printed for the book
-      pub answered : {t u : Text} → Adds (printed (result_in answers number place after)) t u
-          → Adds (printed (result book output_size)) t u
-      answered p = adds_as (ap printed (sym result_told)) p
 
     -- a book that is not refused is sound
     pub complete_sound : number ≡ 0 → SoundBook book

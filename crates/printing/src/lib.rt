@@ -5,20 +5,21 @@ mod lines;
 mod put;
 
 ghost use Rattle.std.specs.Prelude.{◌≡◌, ◌+◌, ◌≤◌, length};
+ghost use Rattle.covering.specs.Put.{Puts};
+ghost use Rattle.covering.specs.Record.{new_places};
 ghost use Rattle.reading.specs.Word.{word as word_at};
 ghost use Rattle.reading.specs.Header.{form_of, new};
-ghost use Rattle.reading.specs.Verdict.{SoundBook};
+ghost use Rattle.reading.specs.Told.{number_of};
+ghost use Rattle.exploration.specs.Answer.{union, refusal, result as result_of};
+ghost use Rattle.exploration.specs.Union.{output_size, members_of, explored_of};
 ghost use Rattle.printing.specs.Printed.{printed};
 ghost use Rattle.printing.specs.Answer.{lines_of, text_size};
-ghost use Rattle.exploration.specs.Answer.{result as result_of};
-ghost use Rattle.exploration.specs.Union.{output_size};
-ghost use Rattle.printing.specs.Printable.{result_in, Printable};
-ghost use Rattle.printing.specs.Text.{Adds};
-ghost use Rattle.covering.specs.Put.{Puts};
-ghost use Rattle.exploration.specs.Refusals.{answers_of};
+ghost use Rattle.printing.specs.Text.{HasRoom, Adds};
+ghost use Rattle.printing.specs.Printable.{UnionStands};
 
 use forms::{BOOK, to_new};
 use put::Text;
+use reading::Refused;
 
 // The little-endian word at i.
 fn word(s: &[u8], i: usize) -> usize
@@ -28,14 +29,15 @@ fn word(s: &[u8], i: usize) -> usize
     usize::from(u16::from_le_bytes([s[i], s[i + 1]]))
 }
 
-// Prints what a number, a place and an output say, whose members have so many answer records.
-fn print(number: u8, place: usize, output: &[u8], answers: u8, text: &mut Text)
-    requires { Printable answers number place output.now text.old }
-    ensures { Adds (printed (result_in answers number place output.now)) text.old text.new }
+// Prints the union that stands in an output, whose members have so many answer records.
+fn print(output: &[u8], answers: u8, text: &mut Text)
+    requires { UnionStands answers output.now
+        × HasRoom (printed (union (members_of new_places answers output.now) (explored_of output.now))) text.old }
+    ensures { Adds
+        (printed (union (members_of new_places answers output.now) (explored_of output.now)))
+        text.old
+        text.new }
 {
-    if number != 0 {
-        return text.put_line(b"refused ", number as usize, b" at ", place);
-    }
     let members = word(output, 0);
     let explored = word(output, 2);
     let first = word(output, 4);
@@ -43,15 +45,13 @@ fn print(number: u8, place: usize, output: &[u8], answers: u8, text: &mut Text)
     text.put_members(output, first, members, answers);
 }
 
-// How many answer records each member of a book's union has; of a book that is refused nothing is asked.
-fn answer_records(book: &[u8], number: u8) -> u8
-    requires { number ≡ 0 → SoundBook book.now }
-    ensures { number ≡ 0 → result ≡ answers_of book.now }
+// Prints a refusal.
+fn print_refusal(refused: Refused, text: &mut Text)
+    requires { text.old.end + text_size ≤ length text.old.room.now }
+    ensures { Adds (printed (refusal (number_of refused.reason) refused.place)) text.old text.new }
 {
-    if number != 0 {
-        return 0;
-    }
-    explore::answer_records(book)
+    let number = u8::from(refused.reason);
+    text.put_line(b"refused ", usize::from(number), b" at ", refused.place);
 }
 
 // The bytes that the longest text needs, and more.
@@ -63,10 +63,10 @@ fn answer_new(book: &[u8], text: &mut Text)
     ensures { Adds (printed (result_of book.now output_size)) text.old text.new }
 {
     let mut output = [0u8; explore::OUTPUT];
-    let r = explore::run(book, &mut output);
-    let number = r.number;
-    let place = r.place;
-    print(number, place, &output, answer_records(book, number), text);
+    match explore::run(book, &mut output) {
+        Ok(_) => print(&output, explore::answer_records(book), text),
+        Err(refused) => print_refusal(refused, text),
+    }
 }
 
 // Prints the answer to a book. What is printed does not tell the forms apart, so the book is printed as it is in the
@@ -76,11 +76,10 @@ fn answer_any(book: &[u8], text: &mut Text)
     ensures { Adds (printed (result_of book.now output_size)) text.old text.new }
 {
     let mut wide = [0u8; BOOK];
-    let copy = to_new(book, &mut wide);
-    if copy.number != 0 {
-        return text.put_line(b"refused ", copy.number as usize, b" at ", copy.place);
+    match to_new(book, &mut wide) {
+        Ok(len) => answer_new(&wide[..len], text),
+        Err(refused) => print_refusal(refused, text),
     }
-    answer_new(&wide[..copy.place], text);
 }
 
 // Prints the answer to a book to the front of the text, and answers where it ends. A text that might be too short is
