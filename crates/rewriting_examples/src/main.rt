@@ -2,17 +2,17 @@
 // numbers are in the order of the book's relations.
 #![tactic(auto)]
 
-ghost use Rattle.std.specs.Prelude.{◌≡◌, ◌+◌, ◌≤◌};
+ghost use Rattle.std.specs.Prelude.{◌≡◌};
 ghost use Rattle.reading.specs.Header.{form_of, new};
 ghost use Rattle.reading.specs.Verdict.{SoundBook};
 ghost use Rattle.lister.specs.Listing.{QuestionIn, RuleIn};
-ghost use Rattle.covering.specs.Buffer.{record_room};
 
 use covering::RECORD;
 use forms::{BOOK, to_new};
 use lister::Rule;
-use std::io;
+use std::fmt::{Display, Formatter};
 use std::io::Write;
+use std::{fmt, io};
 
 // No choice has a number as large: five digits' values for each of eight atoms.
 const MOST: usize = 390625;
@@ -74,45 +74,50 @@ fn twins() -> [u8; 59] {
        \x03\x02\xff\xff\xff"
 }
 
-// A term: v and a variable's number, or c and a constant's.
-fn show_term<W: Write>(out: &mut W, b: u8) -> io::Result<()> {
-    if b < 128 {
-        return write!(out, "v{b}");
-    }
-    let constant = b - 128;
-    write!(out, "c{constant}")
-}
+// A term as a place holds it: v and a variable's number, or c and a constant's.
+#[derive(Clone, Copy)]
+struct Term(u8);
 
-// The atom at i: its relation, and its terms with commas between.
-fn show_atom<W: Write>(out: &mut W, record: &[u8; RECORD], i: usize) -> io::Result<()>
-    requires { i + 7 ≤ record_room }
-{
-    let relation = record[i];
-    write!(out, " r{relation}(")?;
-    for w in 0usize..6 {
-        let b = record[i + 1 + w];
-        if b != 255 {
-            if 0 < w {
-                out.write_all(b",")?;
-            }
-            show_term(out, b)?;
+impl Display for Term {
+    fn fmt<W: fmt::Write>(&self, f: &mut Formatter<W>) -> fmt::Result {
+        let b = self.0;
+        if b < 128 {
+            return write!(f, "v{b}");
         }
+        let constant = b - 128;
+        write!(f, "c{constant}")
     }
-    out.write_all(b")")
 }
 
-fn wide(b: u8) -> usize {
-    b as usize
+// An atom's bytes: its relation, and its terms with commas between.
+#[derive(Clone, Copy)]
+struct Atom<'a>(&'a [u8]);
+
+impl<'a> Display for Atom<'a> {
+    fn fmt<W: fmt::Write>(&self, f: &mut Formatter<W>) -> fmt::Result {
+        let [relation, places @ ..] = self.0 else {
+            return Ok(());
+        };
+        write!(f, "r{relation}(")?;
+        for (w, b) in places.iter().enumerate() {
+            if *b != 255 {
+                if 0 < w {
+                    f.write_str(",")?;
+                }
+                Term(*b).fmt(f)?;
+            }
+        }
+        f.write_str(")")
+    }
 }
 
 // A choice's number, and its rewriting.
 fn show<W: Write>(out: &mut W, choice: usize, record: &[u8; RECORD]) -> io::Result<()> {
     write!(out, "{choice}:")?;
-    let n = wide(record[0]);
-    for i in 0usize..12 {
-        if i < n {
-            show_atom(out, record, 1 + 7 * i)?;
-        }
+    let n = usize::from(record[0]);
+    for atom in record[1..].chunks_exact(7).take(n) {
+        let shown = Atom(atom);
+        write!(out, " {shown}")?;
     }
     out.write_all(b"\n")
 }
@@ -140,11 +145,10 @@ fn tell<W: Write>(out: &mut W, name: &[u8], book: &[u8]) -> io::Result<()> {
     out.write_all(name)?;
     out.write_all(b"\n")?;
     let mut wide = [0u8; BOOK];
-    let copy = to_new(book, &mut wide);
-    if copy.number != 0 {
-        return out.write_all(b"refused\n");
+    match to_new(book, &mut wide) {
+        Ok(len) => tell_new(out, &wide[..len]),
+        Err(_) => out.write_all(b"refused\n"),
     }
-    tell_new(out, &wide[..copy.place])
 }
 
 // The same of a sound book in the new form.
