@@ -1,17 +1,18 @@
 -- Laws of a test of the terms that stand in bytes, an atom and a place at a time: one for each way through the code.
 -- There b is the code's answer, of which is known what it says and what it is. Assumes nothing.
-use mathlib.Core.Path.{◌≡◌, sym, ◌∙◌, ap, ap₂, subst}
-use mathlib.Core.Bool.{Bool, true, false}
+use mathlib.Core.Path.{◌≡◌, refl, sym, ◌∙◌, ap, ap₂, subst}
+use mathlib.Core.Bool.{Bool, true, false, ◌||◌}
 use mathlib.Core.List.{List, [], ◌∷◌, map}
 use Prim.Native.Nat.{ℕ, zero, suc, ◌+◌, ◌*◌, ◌-◌, ◌<◌, ◌≤◌}
 use native.Mathlib.Omega.{arith}
 use lib.Dec.{T}
 use lib.ListN.{get_or}
+use Rattle.std.specs.List.{list_any, range_with_len}
 use Rattle.covering.specs.Lists.{any, all}
 use Rattle.covering.specs.Term.{Term, Question, Sub, on_term, on_question, terms}
 use Rattle.covering.specs.Record.{stored, term_of, args_at, atom_at, atoms_at, used_first, is_atom, are_atoms}
 use Rattle.covering.proofs.Bytes.{args_more, args_end, atom_used}
-use Rattle.covering.proofs.Places.{atoms_none, atoms_more, sound_more, args_none, args_at_lem, terms_first, terms_sent}
+use Rattle.covering.proofs.Places.{atoms_none, atoms_step, atoms_more, sound_more, args_none, args_at_lem, terms_sent}
 use Rattle.covering.proofs.Lists.{all_append, any_append}
 use Rattle.unify.specs.InBytes.{in_book}
 
@@ -87,31 +88,35 @@ nth_sound B zero k i lt t = absurd (omega arith)
 pub nth_used : (B : List ℕ) (n k i : ℕ) → k < n → T (are_atoms in_book B i n) → T (used_first in_book B (i + k * 7 + 1) 6)
 nth_used B n k i lt t = atom_used in_book B (i + k * 7) (nth_sound B n k i lt t)
 
--- the same of the terms of these atoms
-module _ (p : Term → Bool) (B : List ℕ) (i n k : ℕ) where
-  pub some_term_none : n ≤ k → any p (terms (from_atom B i n k)) ≡ false
-  some_term_none h = rw (atoms_none stored B (i + k * 7) (n - k) (omega arith))
+-- whether each of their terms passes the test, once s sent it on
+module _ (p : Term → Bool) (B : List ℕ) (i n k : ℕ) (s : Sub) where
+  pub each_term_none : n ≤ k → all p (terms (on_question s (from_atom B i n k))) ≡ true
+  each_term_none h = rw (atoms_none stored B (i + k * 7) (n - k) (omega arith))
 
-  pub some_term_hit : k < n → {b : Bool} → b ≡ any p (args_at B (i + k * 7 + 1) 6) → b ≡ true
-      → any p (terms (from_atom B i n k)) ≡ true
-  some_term_hit h e f = rw (terms_first stored B (i + k * 7) (n - k) (omega arith), any_append p, sym e ∙ f)
-
-  pub some_term_miss : k < n → {b : Bool} → b ≡ any p (args_at B (i + k * 7 + 1) 6) → b ≡ false
-      → any p (terms (from_atom B i n k)) ≡ any p (terms (from_atom B i n (k + 1)))
-  some_term_miss h e f =
-      ap (λ A. any p (terms A)) (next_atom B i n k h) ∙ rw (args_at_lem stored B (i + k * 7), any_append p, sym e ∙ f)
-
-  pub each_term_none : (s : Sub) → n ≤ k → all p (terms (on_question s (from_atom B i n k))) ≡ true
-  each_term_none s h = rw (atoms_none stored B (i + k * 7) (n - k) (omega arith))
-
-  pub each_term_fails : (s : Sub) → k < n
+  pub each_term_fails : k < n
       → {b : Bool} → b ≡ all p (map (on_term s) (args_at B (i + k * 7 + 1) 6)) → b ≡ false
       → all p (terms (on_question s (from_atom B i n k))) ≡ false
-  each_term_fails s h e f = rw (terms_sent stored B (i + k * 7) (n - k) (omega arith) s, all_append p, sym e ∙ f)
+  each_term_fails h e f = rw (terms_sent stored B (i + k * 7) (n - k) (omega arith) s, all_append p, sym e ∙ f)
 
-  pub each_term_passes : (s : Sub) → k < n
+  pub each_term_passes : k < n
       → {b : Bool} → b ≡ all p (map (on_term s) (args_at B (i + k * 7 + 1) 6)) → b ≡ true
       → all p (terms (on_question s (from_atom B i n k))) ≡ all p (terms (on_question s (from_atom B i n (k + 1))))
-  each_term_passes s h e f =
+  each_term_passes h e f =
       ap (λ A. all p (terms (on_question s A))) (next_atom B i n k h)
       ∙ rw (args_at_lem stored B (i + k * 7), all_append p, sym e ∙ f)
+
+one_more : (i a : ℕ) → i + (a + 1) * 7 ≡ i + a * 7 + 7
+one_more i a = omega arith
+
+-- the atoms from i on by their numbers: whether a term of one passes the test
+pub some_term : (p : Term → Bool) (B : List ℕ) (i n : ℕ) → list_any (λ k. any p (args_at B (i + k * 7 + 1) 6)) (range_with_len 0 n)
+    ≡ any p (terms (atoms_at stored B i n))
+some_term p B i n = go n 0 ∙ ap (λ k. any p (terms (atoms_at stored B k n))) (omega arith)
+  where
+    go : (n a : ℕ) → list_any (λ k. any p (args_at B (i + k * 7 + 1) 6)) (range_with_len a n)
+        ≡ any p (terms (atoms_at stored B (i + a * 7) n))
+    go zero a = rw (atoms_none stored B (i + a * 7) zero refl)
+    go (suc n) a =
+        ap (λ r. any p (args_at B (i + a * 7 + 1) 6) || r)
+        (go n (a + 1) ∙ ap (λ k. any p (terms (atoms_at stored B k n))) (one_more i a))
+        ∙ sym (ap (λ A. any p (terms A)) (atoms_step stored B (i + a * 7) n) ∙ rw (args_at_lem stored B (i + a * 7), any_append p))

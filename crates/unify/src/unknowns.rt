@@ -47,10 +47,5 @@ pub fn has_unknowns(rule: &Rule<'_>) -> bool
     ensures { result ≡ has_unknowns (rule_of rule.now.book.now rule.now.parts) }
 {
     let parts = rule.parts;
-    for k in 0..parts.heads {
-        if unknown_in_places(rule, parts.head + k * 7 + 1) {
-            return true;
-        }
-    }
-    false
+    (0..parts.heads).any(|k| unknown_in_places(rule, parts.head + k * 7 + 1))
 }

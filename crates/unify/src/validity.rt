@@ -48,7 +48,8 @@ fn apart_places(s: &[u8], i: usize, shift: u8, z: u8, rep: u8, table: &[u8; 96])
     true
 }
 
-// The same of the terms of the n atoms from i on.
+// The same of the terms of the n atoms from i on. A `for` and not `all`: that an atom's used places come first, the check
+// gives a loop's turn, but not a closure's.
 fn apart_atoms(s: &[u8], i: usize, n: usize, shift: u8, z: u8, rep: u8, table: &[u8; 96]) -> bool
     requires { AtomsIn in_book s.now i n × (shift ≤ 48) }
     ensures { result
