@@ -11,10 +11,10 @@ ghost use Rattle.explore.specs.Exploring.{MemberIn, ExploredIs, SetsLeft};
 ghost use Rattle.explore.specs.Related.{HeadSets};
 ghost use Rattle.exploration.specs.Refusals.{answers_of, limits_of};
 
-use super::Head;
 use super::related::RULES;
-use super::skipping::{after_drop, fresh};
+use super::skipping::after_drop;
 use super::taking_up::next_rewriting;
+use super::{Head, Patience};
 use admit::{Extent, Fate, ROOM, admit};
 use covering::RECORD;
 use reading::Reason;
@@ -55,7 +55,7 @@ pub fn explore(
     let mut rule = 0;
     let mut from = 0;
     let mut room = [255u8; RECORD];
-    let mut patience = fresh(0);
+    let mut patience = Patience::fresh(0);
     loop {
         let found = next_rewriting(book, rules, starts, heads, member, rule, from, &mut room);
         let Some(taken) = found else {

@@ -101,35 +101,39 @@ fn after_covered(
     from
 }
 
-// The patience that a rule begins with.
-pub fn fresh(rule: usize) -> Patience {
-    Patience {
-        rule,
-        drops: FEW,
-        next: FEW,
+impl Patience {
+    // The patience that a rule begins with.
+    pub fn fresh(rule: usize) -> Self {
+        Patience {
+            rule,
+            drops: FEW,
+            next: FEW,
+        }
     }
-}
 
-// After asking: where it helped it is asked again at once, else after twice as many drops.
-fn asked(rule: usize, next: usize, helped: bool) -> Patience {
-    if helped {
-        return Patience {
+    // After asking: where it helped it is asked again at once, else after twice as many drops.
+    fn asked(self, helped: bool) -> Self {
+        let rule = self.rule;
+        if helped {
+            return Patience {
+                rule,
+                drops: 0,
+                next: 1,
+            };
+        }
+        let drops = self.next;
+        if MANY <= drops {
+            return Patience {
+                rule,
+                drops,
+                next: drops,
+            };
+        }
+        Patience {
             rule,
-            drops: 0,
-            next: 1,
-        };
-    }
-    if MANY <= next {
-        return Patience {
-            rule,
-            drops: next,
-            next,
-        };
-    }
-    Patience {
-        rule,
-        drops: next,
-        next: next * 2,
+            drops,
+            next: drops * 2,
+        }
     }
 }
 
@@ -164,7 +168,7 @@ pub fn after_drop(
 {
     let mut now = patience;
     if now.rule != rule {
-        now = fresh(rule);
+        now = Patience::fresh(rule);
     }
     if 0 < now.drops {
         now.drops -= 1;
@@ -177,6 +181,6 @@ pub fn after_drop(
     let from = after_covered(&Rule { book, parts }, member, work, sets, members, choice);
     Resumed {
         from: from,
-        patience: asked(rule, now.next, choice + 1 < from),
+        patience: now.asked(choice + 1 < from),
     }
 }

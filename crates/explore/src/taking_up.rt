@@ -23,10 +23,8 @@ pub fn oldest(work: &[u8], filled: Extent) -> [u8; RECORD]
     ensures { OldestIs work.now filled result }
 {
     let mut at = FIRST;
-    let mut passed = 0;
-    while passed < filled.front {
+    for _passed in 0..filled.front {
         at += records::width(work[at]);
-        passed += 1;
     }
     records::copy_record(&work[at..])
 }

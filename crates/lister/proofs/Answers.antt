@@ -8,7 +8,7 @@ use mathlib.Core.Option.{Option, none, some}
 use Prim.Native.Nat.{ℕ, suc, ◌+◌, ◌*◌, ◌-◌, ◌≤◌, ◌<◌}
 use native.Mathlib.Omega.{arith}
 use lib.ListN.{length, get_or}
-use Rattle.std.specs.Prelude.{Some, None, IsSome, IsNone}
+use Rattle.std.specs.Prelude.{None, IsSome, IsNone}
 use Rattle.std.specs.Prelude.{Option as Answer}
 use Rattle.covering.specs.Lists.{first_of, numbers}
 use Rattle.covering.specs.Term.{Atom, Question, on_atom}

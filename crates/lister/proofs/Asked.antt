@@ -14,7 +14,7 @@ use Rattle.covering.specs.Lists.{◌∈◌}
 use Rattle.covering.specs.Term.{Term, Atom, Question, on_term, on_atom, Below}
 use Rattle.covering.specs.Record.{stored, term_of, atom_at, atoms_at, question_of, is_atom, are_atoms, AtomFits, TermFits}
 use Rattle.covering.specs.Buffer.{held_in, RoomLeft, AtomIn, record_room}
-use Rattle.covering.proofs.Places.{question_at_lem, sound_more}
+use Rattle.covering.proofs.Places.{question_at_lem}
 use Rattle.covering.proofs.Fitting.{atom_fits}
 use Rattle.covering.proofs.Terms.{terms_out}
 use Rattle.covering.proofs.Wider.{atom_means}

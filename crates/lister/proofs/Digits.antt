@@ -11,12 +11,9 @@ use lib.ListN.{length, get_or}
 use Rattle.covering.specs.Term.{Question}
 use Rattle.covering.specs.Record.{stored, question_of, atoms_at}
 use Rattle.book.specs.declared.Parts.{Parts}
-use Rattle.unification.specs.Choice.{count}
 use Rattle.unification.specs.Step.{move}
-use Rattle.unification.proofs.Prefix.{count_some}
 use Rattle.unify.specs.Table.{tabled, own}
 use Rattle.unify.specs.InBytes.{rule_of, classes_of, merged}
-use Rattle.lister.specs.Counts.{most_choices}
 use Rattle.lister.specs.Leaving.{left_by, any_sent}
 use Rattle.lister.specs.Listing.{QuestionIn, RuleIn, Asks, Builds}
 use Rattle.lister.proofs.LeftByBits.{none_left, left_more, sent_more}

@@ -1,7 +1,6 @@
 -- For whoever lists from a sound book in the new form: its rules and its question are what `next` asks for, and what `next` finds is
 -- numbered from where it was asked on and below the count of choices. Assumes nothing.
-use mathlib.Core.Path.{◌≡◌, refl, sym, ◌∙◌, ap, subst}
-use mathlib.Core.Bool.{true, false}
+use mathlib.Core.Path.{◌≡◌, refl, sym, subst}
 use mathlib.Core.List.{List}
 use mathlib.Core.Option.{Option, none, some}
 use Prim.Native.Nat.{ℕ, ◌≤◌, ◌<◌}

@@ -1,15 +1,15 @@
 -- The upper half of a table, moved down: what stands for the rule's variables. Assumes nothing.
 use mathlib.Core.Path.{◌≡◌, refl, sym, ◌∙◌, ap, subst}
-use mathlib.Core.List.{List, [], ◌∷◌, map}
+use mathlib.Core.List.{List, [], ◌∷◌, ◌++◌, map}
 use mathlib.Core.List.Memᴰ
 use mathlib.Core.Bool.{true, false}
 use mathlib.Core.Logic.{◌⊎◌, inl, inr}
-use Prim.Native.Nat.{ℕ, zero, suc, ◌+◌, ◌≤◌, ◌<◌}
+use Prim.Native.Nat.{ℕ, zero, suc, ◌+◌, ◌-◌, ◌<◌}
 use native.Mathlib.Omega.{arith}
-use borrow.Author.Tests.{eqb-true, eqb-false, ltb-true, ltb-false}
-use lib.Dec.{eqb, ltb}
-use lib.ListN.{length, get_or, set, length-set}
-use lib.Seq.{get_or-set_same, get_or-set_other}
+use borrow.Author.Tests.{ltb-true, ltb-false}
+use lib.Dec.{ltb}
+use lib.ListN.{length, get_or, take, drop, length-take, length-drop, length-append, get_or-append}
+use Rattle.std.proofs.lemmas.List.{get_or-take, get_or-drop, get_or-append_right}
 use Rattle.covering.specs.Lists.{◌∈◌}
 use Rattle.covering.specs.Record.{stored, term_of, TermFits}
 use Rattle.covering.proofs.Tests.{either}
@@ -23,43 +23,26 @@ in_classes [] n h = elim h [ ]
 in_classes (x ∷ m) zero h = Memᴰ.head refl
 in_classes (x ∷ m) (suc n) h = Memᴰ.tail (in_classes m n (omega arith))
 
--- the upper half, of which the first i entries are moved down
-pub record Half (table upper : List ℕ) (i : ℕ) : Type 0 where
-  pub moved : (n : ℕ) → n < i → get_or upper n 0 ≡ get_or table (n + 48) 0
-  pub others : (n : ℕ) → i ≤ n → get_or upper n 0 ≡ get_or table n 0
-  pub size : length upper ≡ length table
-
-pub half_none : (table upper : List ℕ) → upper ≡ table → Half table upper 0
-half_none table upper e =
+-- the upper half, copied over the lower one
+pub upper_half_is : (table copy : List ℕ) → length table ≡ 96 → copy ≡ take 48 (drop 48 table)
+    → UpperHalf table (copy ++ drop 48 table)
+upper_half_is table copy long e =
     record {
-      moved = λ n h. absurd (omega arith);
-      others = λ n h. ap (λ m. get_or m n 0) e;
-      size = ap length e;
-    }
-
-pub half_more : (table upper : List ℕ) (i : ℕ) → i < length upper → Half table upper i
-    → Half table (set upper i (get_or table (i + 48) 0)) (i + 1)
-half_more table upper i h f =
-    record {
-      moved = λ n lt. go n lt (either (eqb n i));
-      others = λ n le. get_or-set_other upper i n _ 0 (λ e. omega arith) ∙ f.others n (omega arith);
-      size = length-set upper i _ ∙ f.size;
+      moved = λ n h.
+          get_or-append copy (drop 48 table) 0 n (omega (arith, size))
+          ∙ ap (λ m. get_or m n 0) e
+          ∙ get_or-take 48 (drop 48 table) n 0 h
+          ∙ get_or-drop 48 table n 0
+          ∙ ap (λ k. get_or table k 0) (omega arith);
+      others = λ n h.
+          get_or-append_right copy (drop 48 table) 48 n 0 size h
+          ∙ get_or-drop 48 table (n - 48) 0
+          ∙ ap (λ k. get_or table k 0) (omega arith);
+      size = length-append copy (drop 48 table) ∙ omega (arith, size, length-drop 48 table);
     }
   where
-    go : (n : ℕ) → n < i + 1 → (eqb n i ≡ true) ⊎ (eqb n i ≡ false)
-        → get_or (set upper i (get_or table (i + 48) 0)) n 0 ≡ get_or table (n + 48) 0
-    go n lt (inl e) = rw (eqb-true n i e) (get_or-set_same upper i (get_or table (i + 48) 0) 0 h)
-    go n lt (inr e) =
-        let ne = eqb-false n i e in
-        get_or-set_other upper i n (get_or table (i + 48) 0) 0 ne ∙ f.moved n (omega arith)
-
-pub half_all : (table upper : List ℕ) (i : ℕ) → i ≡ 48 → Half table upper i → UpperHalf table upper
-half_all table upper i e f =
-    record {
-      moved = λ n h. f.moved n (omega arith);
-      others = λ n h. f.others n (omega arith);
-      size = f.size;
-    }
+    size : length copy ≡ 48
+    size = ap length e ∙ omega (arith, length-take 48 (drop 48 table), length-drop 48 table)
 
 -- a table whose every entry fits
 pub fits_all : (m : List ℕ) → ((n : ℕ) → n < length m → TermFits stored (term_of (get_or m n 0))) → ClassesFit m

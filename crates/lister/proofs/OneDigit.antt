@@ -6,13 +6,12 @@ use mathlib.Core.List.{List, [], ◌∷◌, ◌++◌, append-nil}
 use mathlib.Core.List.Memᴰ
 use Prim.Native.Nat.{ℕ, zero, suc, ◌+◌, ◌*◌, ◌-◌, ◌≤◌, ◌<◌}
 use native.Mathlib.Omega.{arith}
-use lib.Dec.{T}
 use lib.ListN.{length, get_or, length-map}
 use Rattle.covering.specs.Lists.{◌∈◌}
 use Rattle.covering.specs.Term.{Term, Atom, Question, on_atom, terms}
-use Rattle.covering.specs.Record.{Layout, size, stored, term_of, atom_at, atoms_at, question_of, is_atom}
-use Rattle.covering.specs.Buffer.{held_in, AtomIn, AtomsIn, record_room}
-use Rattle.covering.proofs.Places.{atoms_step, are_atoms_lem}
+use Rattle.covering.specs.Record.{Layout, size, stored, term_of, atom_at, atoms_at, question_of}
+use Rattle.covering.specs.Buffer.{held_in, AtomIn, record_room}
+use Rattle.covering.proofs.Places.{atoms_step}
 use Rattle.book.specs.declared.Parts.{Parts}
 use Rattle.unification.specs.Choice.{left, to_head, pairing, atom_pairs}
 use Rattle.unification.specs.Step.{up, move}

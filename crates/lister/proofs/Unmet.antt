@@ -1,12 +1,11 @@
 -- Atoms that no head atom can meet: what a loop over the head atoms says of one, what it is to leave them one after the
 -- other, and that such an atom is unrelated to the head. Assumes nothing.
-use mathlib.Core.Path.{◌≡◌, refl, sym, ◌∙◌, ap, subst}
-use mathlib.Core.Bool.{Bool, true, false, not, cond}
+use mathlib.Core.Path.{◌≡◌, refl, sym, ◌∙◌, ap, ap₂, subst}
+use mathlib.Core.Bool.{Bool, true, false, not, cond, ◌||◌}
 use mathlib.Core.List.Memᴰ
 use mathlib.Core.List.{List, [], ◌∷◌, ◌++◌, append-nil, append_assoc}
-use Prim.Native.Nat.{ℕ, suc, ◌+◌, ◌*◌, ◌-◌, ◌≤◌, ◌<◌}
+use Prim.Native.Nat.{ℕ, zero, suc, ◌+◌, ◌*◌, ◌≤◌, ◌<◌}
 use native.Mathlib.Omega.{arith}
-use borrow.Author.Tests.{eq-eqb, ne_eqb}
 use lib.Dec.{T, eqb, eqb_refl}
 use lib.ListN.{length, get_or, drop, take, take-append-drop}
 use lib.Seq.{drop-cons, drop-length}
@@ -16,11 +15,11 @@ use Rattle.covering.specs.Record.{stored, atom_at, atoms_at, question_of, AtomFi
 use Rattle.covering.specs.Buffer.{held_in, AtomIn, record_room}
 use Rattle.covering.proofs.Lengths.{question_count}
 use Rattle.covering.proofs.Lists.{keep_out, any_in}
-use Rattle.covering.proofs.Places.{relation_at, atoms_none, question_at_lem}
+use Rattle.covering.proofs.Places.{relation_at, atoms_none, atoms_step, question_at_lem}
 use Rattle.covering.proofs.Tests.{clash}
 use Rattle.unification.proofs.Unrelated.{Unrelated}
 use Rattle.unify.specs.InBytes.{in_book}
-use Rattle.unify.proofs.EachTerm.{from_atom, next_atom}
+use Rattle.std.specs.List.{list_any, range_with_len}
 use Rattle.lister.specs.FirstDigits.{unmet}
 use Rattle.lister.specs.Listing.{QuestionIn, LeftIn}
 use Rattle.lister.proofs.RewritingBytes.{first_fits, first_atom_in, one_atom}
@@ -31,21 +30,21 @@ use Rattle.lister.proofs.LeftAtoms.{left_put}
 abbrev pub met : ℕ → Question → Bool
 met n H = any (λ b. eqb n b.rel) H
 
--- the head atoms in their bytes, of which k are passed
-module _ (B : List ℕ) (i heads n k : ℕ) where
-  pub met_none : heads ≤ k → met n (from_atom B i heads k) ≡ false
-  met_none h = rw (atoms_none stored B (i + k * 7) (heads - k) (omega arith))
+-- the head atoms in their bytes, by their numbers
+pub met_is : (B : List ℕ) (i heads n : ℕ) → list_any (λ k. eqb n (get_or B (i + k * 7) 0)) (range_with_len 0 heads)
+    ≡ met n (atoms_at stored B i heads)
+met_is B i heads n = go heads 0 ∙ ap (λ k. met n (atoms_at stored B k heads)) (omega arith)
+  where
+    next : (a : ℕ) → i + (a + 1) * 7 ≡ i + a * 7 + 7
+    next a = omega arith
 
-  pub met_here : k < heads → get_or B (i + k * 7) 0 ≡ n → met n (from_atom B i heads k) ≡ true
-  met_here h e =
-      ap (met n) (next_atom B i heads k h)
-      ∙ rw (eq-eqb n (atom_at stored B (i + k * 7)).rel (sym (relation_at stored B (i + k * 7) ∙ e)))
-
-  pub met_later : k < heads → (get_or B (i + k * 7) 0 ≡ n → ⊥)
-      → met n (from_atom B i heads k) ≡ met n (from_atom B i heads (k + 1))
-  met_later h e =
-      ap (met n) (next_atom B i heads k h)
-      ∙ rw (ne_eqb n (atom_at stored B (i + k * 7)).rel (λ x. e (sym (x ∙ relation_at stored B (i + k * 7)))))
+    go : (m a : ℕ) → list_any (λ k. eqb n (get_or B (i + k * 7) 0)) (range_with_len a m)
+        ≡ met n (atoms_at stored B (i + a * 7) m)
+    go zero a = rw (atoms_none stored B (i + a * 7) zero refl)
+    go (suc m) a =
+        ap₂ ◌||◌ (ap (eqb n) (sym (relation_at stored B (i + a * 7))))
+        (go m (a + 1) ∙ ap (λ k. met n (atoms_at stored B k m)) (next a))
+        ∙ sym (ap (met n) (atoms_step stored B (i + a * 7) m))
 
 pub unmet_are : (H Q : Question) (p : ℕ) (a : Atom) → a ∈ unmet H (drop p Q) → (a ∈ Q) × Unrelated (a ∷ []) H
 unmet_are H Q p a m =

@@ -1,7 +1,6 @@
 -- What the first digits of a choice settle, once the loop has put them all: the atoms left, those after them that no head
 -- atom can meet, and the body, by the classes. Assumes nothing.
 use mathlib.Core.Path.{◌≡◌, refl, sym, ◌∙◌, ap, subst}
-use mathlib.Core.Bool.{true}
 use mathlib.Core.Logic.{◌⊎◌, inl, inr}
 use mathlib.Core.List.Memᴰ
 use mathlib.Core.List.{List, ◌++◌}

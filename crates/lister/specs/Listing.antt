@@ -1,6 +1,6 @@
 -- What the lister is asked and what it answers, as the code holds it. The contract of `next` needs `FoundIs`
 -- and what is asked of the rule and the question; the others are the functions' own.
-use Rattle.std.specs.Prelude.{◌≡◌, Bool, true, false, List, ℕ, suc, ◌+◌, ◌*◌, ◌≤◌, ◌<◌, T, length, get_or, Some, None}
+use Rattle.std.specs.Prelude.{◌≡◌, Bool, true, List, ℕ, suc, ◌+◌, ◌*◌, ◌≤◌, ◌<◌, T, length, get_or, Some, None}
 use Rattle.std.specs.Prelude.{Option as Answer}
 use Rattle.std.proofs.Math.Option.{Option, none, some}
 use Rattle.covering.specs.Lists.{◌∈◌}

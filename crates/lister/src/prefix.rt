@@ -49,12 +49,7 @@ fn is_unmet(rule: &Rule<'_>, relation: u8) -> bool
     ensures { result ≡ not (any (λ b. eqb relation b.rel) (rule_of rule.now.book.now rule.now.parts).head) }
 {
     let parts = rule.parts;
-    for k in 0..parts.heads {
-        if rule.book[parts.head + k * 7] == relation {
-            return false;
-        }
-    }
-    true
+    !(0..parts.heads).any(|k| relation == rule.book[parts.head + k * 7])
 }
 
 // Leaves those of the atoms after the first p that no head atom can meet: every choice that is valid leaves them.

@@ -19,9 +19,7 @@ fn upper_half(table: &[u8; 96]) -> [u8; 96]
     ensures { UpperHalf table.now result }
 {
     let mut upper = *table;
-    for i in 0..48 {
-        upper[i] = table[i + 48];
-    }
+    upper[..48].copy_from_slice(&table[48..]);
     upper
 }
 

@@ -9,14 +9,13 @@ use native.Mathlib.Omega.{arith}
 use borrow.Author.Tests.{ltb-true, ltb-false, eqb-true, eq-eqb, ne_eqb}
 use lib.Dec.{eqb, ltb}
 use lib.ListN.{length, get_or, length-map, get_or-eq_default}
-use Rattle.covering.specs.Term.{Term, var, con, on_term}
+use Rattle.covering.specs.Term.{Term, var, con}
 use Rattle.covering.specs.Record.{term_of}
 use Rattle.covering.proofs.Bytes.{term_var, term_con}
 use Rattle.covering.proofs.Lists.{map_same, map_none}
 use Rattle.covering.proofs.Tests.{either}
 use Rattle.covering.specs.Lists.{numbers}
 use Rattle.unification.specs.Classes.{point}
-use Rattle.unification.specs.Step.{up}
 use Rattle.unify.specs.Table.{Table, look, join_table, own}
 use Rattle.unify.specs.InBytes.{classes_of, merged}
 

@@ -20,7 +20,7 @@ use Rattle.covering.specs.Rule.{Rule}
 use Rattle.unification.specs.Step.{up, move, mem_term, is_unknown, guarded, safe, valid}
 use Rattle.unification.proofs.Invalid.{always_valid}
 use Rattle.unify.specs.Table.{Table, look, tabled}
-use Rattle.unify.specs.InBytes.{rule_in, classes_of}
+use Rattle.unify.specs.InBytes.{classes_of}
 use Rattle.unify.specs.Unknowns.{has_unknowns}
 
 -- a byte moved up by k

@@ -30,8 +30,7 @@ pub fn stands_for(table: &[u8; 96], t: u8) -> u8
     ensures { term_of result ≡ look (classes_of table.now) (term_of t) }
 {
     if t < 96 {
-        let at = t as usize;
-        return table[at];
+        return table[usize::from(t)];
     }
     t
 }

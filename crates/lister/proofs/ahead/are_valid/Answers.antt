@@ -1,6 +1,6 @@
 -- `lister::ahead::are_valid` meets its contract: a rule without existential variables answers with yes, and any other by
 -- the test.
-use mathlib.Core.Path.{◌≡◌, sym, ◌∙◌}
+use mathlib.Core.Path.{sym, ◌∙◌}
 use Rattle.covering.specs.Record.{question_of, stored}
 use Rattle.unify.specs.Table.{tabled}
 use Rattle.unify.specs.InBytes.{rule_of, classes_of}

@@ -1,6 +1,6 @@
 -- `lister::builder::next` meets its contract: the builder starts with no atom passed, none sent and each variable in a
 -- class of its own.
-use mathlib.Core.Path.{refl, sym}
+use mathlib.Core.Path.{refl}
 use Rattle.lister.proofs.Asked.{start_next}
 use Rattle.lister.proofs.Answers.{told_same}
 use Rattle.lister.proofs.Digits.{start_builds}

@@ -1,10 +1,8 @@
 -- `lister::prefix::prefix_rewriting` meets its contract. The loop's invariant (`Begun`): the atoms left and the classes
 -- are those of the first j digits, and what is left of the number is the number of the others.
 use native.Mathlib.Omega.{arith}
-use mathlib.Core.Path.{◌≡◌, sym, ◌∙◌, ap, subst}
-use Prim.Native.Nat.{ℕ, ◌-◌, ◌<◌}
-use lib.ListN.{get_or}
-use Rattle.unification.specs.Choice.{count}
+use mathlib.Core.Path.{◌≡◌, subst}
+use Prim.Native.Nat.{◌-◌}
 use Rattle.unification.proofs.Prefix.{count_some}
 use Rattle.lister.proofs.FirstDigits.{Begun, begun_first, begun_next, begun_stops, digit_for}
 use Rattle.lister.proofs.WhatIsSettled.{prefix_none, prefix_many, prefix_some}

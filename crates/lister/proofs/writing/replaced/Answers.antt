@@ -3,8 +3,6 @@ use borrow.Author.Rules.{rules}
 use native.Mathlib.Omega.{arith}
 use lib.ListN.{length}
 use mathlib.Core.Path.{◌≡◌}
-use Rattle.covering.specs.Buffer.{AtomsIn}
-use Rattle.unify.specs.InBytes.{in_book}
 use Rattle.lister.proofs.RewritingBytes.{filling_none, left_filling, whole_written}
 use Rattle.lister.proofs.Halves.{upper_fits}
 use Rattle.lister.proofs.writing.replaced.Goals as goal

@@ -1,18 +1,17 @@
--- `lister::writing::upper_half` meets its contract. The loop's invariant: the entries before i are moved down.
-use borrow.Author.Rules.{rules}
+-- `lister::writing::upper_half` meets its contract.
 use native.Mathlib.Omega.{arith}
-use mathlib.Core.Path.{◌≡◌, refl}
-use lib.ListN.{length}
-use Rattle.lister.proofs.Halves.{half_none, half_more, half_all}
+use mathlib.Core.Path.{sym, ◌∙◌}
+use lib.ListN.{length-take, length-drop, drop}
+use Rattle.lister.proofs.Halves.{upper_half_is}
 use Rattle.lister.proofs.writing.upper_half.Goals as goal
 
-pub loop-i-init : goal.loop-i-init
-loop-i-init c = half_none _ _ refl
+pub slice_bounds-copy_from_slice-end : goal.slice_bounds-copy_from_slice-end
+slice_bounds-copy_from_slice-end c = sym (length-take 48 c.args.table.now ∙ omega (arith, c.told-table))
 
-pub loop-i-preserved : goal.loop-i-preserved
-loop-i-preserved c =
-    let long : length c.loop-i.upper ≡ 96 = search rules in
-    half_more _ _ _ (omega arith) c.loop-i.invariant
+pub copy_from_slice-requires : goal.copy_from_slice-requires
+copy_from_slice-requires c =
+    let t = c.args.table.now in
+    omega (arith, c.told-table, length-take 48 t, length-take 48 (drop 48 t), length-drop 48 t)
 
 pub returns : goal.returns
-returns c = half_all _ _ _ (omega arith) c.loop-i.invariant
+returns c = upper_half_is c.args.table.now _ c.told-table c.copy_from_slice.ensures.after

@@ -7,7 +7,7 @@ use Rattle.unify.proofs.byte.stands_for.Goals as goal
 pub returns-then-t-lt96 : goal.returns-then-t-lt96
 returns-then-t-lt96 c =
     let a = c.args in
-    sym (look_variable a.table.now a.t (omega arith) (omega arith))
+    rw c.from.ensures (sym (look_variable a.table.now a.t (omega arith) (omega arith)))
 
 pub returns : goal.returns
 returns c =

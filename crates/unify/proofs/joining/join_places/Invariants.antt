@@ -1,7 +1,7 @@
 -- `unify::joining::join_places` meets its contract. The loop's invariant: putting all places together is putting
 -- those from the j-th on together under the classes so far, the head's are sound.
 use mathlib.Core.Path.{◌≡◌}
-use Prim.Native.Nat.{◌+◌, ◌-◌, ◌≤◌}
+use Prim.Native.Nat.{◌+◌, ◌-◌}
 use mathlib.Core.List.{map}
 use lib.Dec.{T}
 use Rattle.covering.specs.Term.{on_term}

@@ -1,7 +1,7 @@
 -- `unify::stuck::barred_places` meets its contract. The loop's invariant: the pairs from the j-th place on are among those
 -- of the two atoms, and the head's places are sound.
 use mathlib.Core.List.{map}
-use Prim.Native.Nat.{◌+◌, ◌-◌, ◌≤◌}
+use Prim.Native.Nat.{◌+◌, ◌-◌}
 use lib.Dec.{T}
 use Rattle.covering.specs.Term.{on_term}
 use Rattle.covering.specs.Record.{args_at, used_first}

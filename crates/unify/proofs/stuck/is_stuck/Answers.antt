@@ -5,7 +5,7 @@ use mathlib.Core.Path.{sym, subst}
 use mathlib.Core.Bool.{true≢false}
 use mathlib.Core.List.{map}
 use Rattle.covering.specs.Lists.{◌∈◌}
-use Rattle.covering.specs.Term.{Question, on_question, on_atom}
+use Rattle.covering.specs.Term.{Question, on_atom}
 use Rattle.covering.specs.Record.{atom_at}
 use Rattle.covering.proofs.Tests.{not_false}
 use Rattle.unification.specs.Step.{up}

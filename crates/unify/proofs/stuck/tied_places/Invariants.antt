@@ -1,6 +1,6 @@
 -- `unify::stuck::tied_places` meets its contract. The loop's invariant: the terms from the j-th place on are among the
 -- atom's.
-use Prim.Native.Nat.{◌+◌, ◌-◌, ◌≤◌}
+use Prim.Native.Nat.{◌+◌, ◌-◌}
 use Rattle.covering.specs.Record.{args_at}
 use Rattle.unify.proofs.StuckBytes.{Within}
 use Rattle.unify.proofs.stuck.tied_places.Given as goal

@@ -1,7 +1,7 @@
 -- `unify::unknowns::unknown_in_places` meets its contract. The loop's invariant: a term in the places is unknown to the
 -- body exactly where one from the j-th place on is.
 use mathlib.Core.Path.{◌≡◌}
-use Prim.Native.Nat.{◌+◌, ◌-◌, ◌≤◌}
+use Prim.Native.Nat.{◌+◌, ◌-◌}
 use Rattle.covering.specs.Lists.{any}
 use Rattle.covering.specs.Record.{stored, args_at, atoms_at}
 use Rattle.unify.proofs.ValidTests.{unknown_to}

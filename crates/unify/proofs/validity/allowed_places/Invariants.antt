@@ -2,7 +2,7 @@
 -- exactly where those from the j-th place on are, and these places are sound.
 use mathlib.Core.Path.{◌≡◌}
 use mathlib.Core.List.{map}
-use Prim.Native.Nat.{◌+◌, ◌-◌, ◌≤◌}
+use Prim.Native.Nat.{◌+◌, ◌-◌}
 use lib.Dec.{T}
 use Rattle.covering.specs.Lists.{all}
 use Rattle.covering.specs.Term.{on_term}
