@@ -62,7 +62,8 @@ module _ (B : List ℕ) (i n : ℕ) where
     terms_next S = ap (λ A. all_seen S (terms A)) more ∙ seen_append S (next k).args (terms (left (k + 1)))
 
     -- added to those kept
-    pub added_next : (K : Question) → added_all eq_atom K (left k) ≡ added_all eq_atom (added eq_atom K (next k)) (left (k + 1))
+    pub added_next : (K : Question)
+        → added_all eq_atom K (left k) ≡ added_all eq_atom (added eq_atom K (next k)) (left (k + 1))
     unfolding added_all
     added_next K = rw more
 

@@ -31,7 +31,8 @@ put_part t bytes at k end e f h =
     }
 
 -- the front of some bytes is written
-pub put_front : (t s bytes : List ℕ) (at k m n : ℕ) → bytes ≡ take m s → m ≡ n → k ≡ n → put_mid at k t bytes ≡ paste t at s n
+pub put_front : (t s bytes : List ℕ) (at k m n : ℕ) → bytes ≡ take m s → m ≡ n → k ≡ n
+    → put_mid at k t bytes ≡ paste t at s n
 put_front t s bytes at k m n e f g =
     ap₂ (λ (x r : List ℕ). take at t ++ (x ++ r)) (e ∙ ap (λ (j : ℕ). take j s) f)
     (drop-drop k at t ∙ ap (λ (j : ℕ). drop (at + j) t) g)
@@ -76,10 +77,14 @@ module _ (w v u : ℕ) (few : u ≡ min w v) (B : List ℕ) (i : ℕ) (fits : i 
   pub atom_put : T (is_atom (holding w) B i) → length (atom_at (holding w) B i).args ≤ v
       → (t copied free : List ℕ) (at : ℕ) → at + 1 + v ≤ length t
       → copied ≡ take (i + (1 + u) - i) (drop i B)
-      → free ≡ replicate (length (take (at + 1 + v - (at + (1 + u))) (drop (at + (1 + u)) (put_mid at (at + (1 + u) - at) t copied)))) 255
+      → free
+      ≡ replicate
+      (length (take (at + 1 + v - (at + (1 + u))) (drop (at + (1 + u)) (put_mid at (at + (1 + u) - at) t copied))))
+      255
       → Puts (atom_bytes (holding v) (atom_at (holding w) B i)) t at (at + 1 + v)
       (put_mid (at + (1 + u)) (at + 1 + v - (at + (1 + u))) (put_mid at (at + (1 + u) - at) t copied) free)
-  atom_put a h t copied free at room e f = put_as (atom_is a h ∙ ap₂ (λ (x y : List ℕ). x ++ y) (sym ours) (sym rest)) (then first (put_part _ free _ _ _ (omega (arith, ap length rest, length-replicate {A = ℕ})) (omega arith) (omega (arith, same))))
+  atom_put a h t copied free at room e f =
+      put_as (atom_is a h ∙ ap₂ (λ (x y : List ℕ). x ++ y) (sym ours) (sym rest)) (then first second)
     where
       ours : copied ≡ kept
       ours = e ∙ ap (λ (n : ℕ). take n (drop i B)) (omega arith)
@@ -92,3 +97,9 @@ module _ (w v u : ℕ) (few : u ≡ min w v) (B : List ℕ) (i : ℕ) (fits : i 
 
       rest : free ≡ replicate (v - u) 255
       rest = f ∙ ap (λ (n : ℕ). replicate n 255) (omega (arith, same, length-take {A = ℕ}, length-drop {A = ℕ}))
+
+      second : Puts free (put_mid at (at + (1 + u) - at) t copied) (at + (1 + u)) (at + 1 + v)
+          (put_mid (at + (1 + u)) (at + 1 + v - (at + (1 + u))) (put_mid at (at + (1 + u) - at) t copied) free)
+      second =
+          put_part _ free _ _ _ (omega (arith, ap length rest, length-replicate {A = ℕ})) (omega arith)
+          (omega (arith, same))

@@ -23,7 +23,8 @@ has_atom-requires c =
     let lt : c.loop-k.k < get_or m 0 0 = omega (arith, c.from-n.ensures) in
     let others = from_in stored m 1 _ (c.loop-k.k + 1) (omega arith) all in
     let next : 1 + (c.loop-k.k + 1) * 7 ≡ 1 + c.loop-k.k * 7 + 7 = omega arith in
-    (rw c.from-n.ensures (subst (λ (i : ℕ). AtomsIn stored m i (get_or m 0 0 - (c.loop-k.k + 1))) next others), nth_in stored m 1 _ _ lt all)
+    let after = subst (λ (i : ℕ). AtomsIn stored m i (get_or m 0 0 - (c.loop-k.k + 1))) next others in
+    (rw c.from-n.ensures after, nth_in stored m 1 _ _ lt all)
 
 pub loop-k-preserved : goal.loop-k-preserved
 loop-k-preserved c =

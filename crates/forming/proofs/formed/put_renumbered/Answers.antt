@@ -47,9 +47,10 @@ loop-k-preserved c =
     let grown =
     grows_on stored stored_apart record_room (numbering (question_of stored m)) _ _ _ s.0 a _ s.1 (omega arith) same fits
     c.put_on.ensures in
+    let now = s.0 ++ a ∷ [] in
     let one_less : get_or m 0 0 - k - 1 ≡ get_or m 0 0 - (k + 1) = omega arith in (
-      s.0 ++ a ∷ [],
-      subst (λ (n : ℕ). Grows stored record_room c.put_on.new.kept (on_question (numbering (question_of stored m)) (s.0 ++ a ∷ [])) n)
+      now,
+      subst (λ (n : ℕ). Grows stored record_room c.put_on.new.kept (on_question (numbering (question_of stored m)) now) n)
           one_less grown,
       split_next m 1 _ _ lt _ s.0 s.2,
     )

@@ -23,7 +23,8 @@ copy_atoms-requires c =
       subst (AtomsIn stored W (i + 1)) count (member_within W i c.requires.1 c.requires.0),
       λ a m.
           c.requires.3 a
-          (subst (λ (A : Question). a ∈ A) (ap (atoms_at stored W (i + 1)) (sym count) ∙ sym (member_atoms W i c.requires.1)) m),
+          (subst (λ (A : Question). a ∈ A)
+          (ap (atoms_at stored W (i + 1)) (sym count) ∙ sym (member_atoms W i c.requires.1)) m),
       simp length-set (omega (arith, c.requires.5, count)),
     )
 

@@ -1,5 +1,5 @@
--- `forming::formed::Numbers::number_atom` meets its contract. The loop's invariant: to see all places is to see those from
--- the j-th on, after the variables that the table has now.
+-- `forming::formed::Numbers::number_atom` meets its contract. The loop's invariant: to see all places is to see those
+-- from the j-th on, after the variables that the table has now.
 use mathlib.Core.Path.{◌≡◌}
 use mathlib.Core.List.{List}
 use Prim.Native.Nat.{ℕ, ◌+◌, ◌-◌, ◌≤◌}

@@ -1,5 +1,5 @@
--- `forming::formed::Numbers::number_term` meets its contract: a constant changes nothing, nor does a variable that has a
--- number; any other gets the next one.
+-- `forming::formed::Numbers::number_term` meets its contract: a constant changes nothing, nor does a variable that has
+-- a number; any other gets the next one.
 use borrow.Author.Rules.{rules}
 use native.Mathlib.Omega.{arith}
 use Prim.Native.Nat.{◌<◌}
