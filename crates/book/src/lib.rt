@@ -14,7 +14,7 @@ ghost use Rattle.covering.specs.Buffer.{held_in, record_room};
 use covering::RECORD;
 pub use judging::answers;
 use judging::{
-    ATOM, NEW_HEADER, OLD_HEADER, OLD_PLACES, contents, header_for, in_table, offsets_right, word,
+    ATOM, Form, OLD_PLACES, contents, in_table, offsets_right, word,
 };
 pub use reading::Header;
 use reading::{Reason, Refused};
@@ -33,10 +33,10 @@ fn places(book: &[u8], table: usize) -> usize
     requires { (table ≡ relations_at book.now) × (header_size book.now ≤ length book.now) }
     ensures { result ≡ (header_of book.now).places }
 {
-    if table == NEW_HEADER {
-        return word(book, 18);
+    match Form::told_by(table) {
+        Form::New => word(book, 18),
+        Form::Old => OLD_PLACES,
     }
-    OLD_PLACES
 }
 
 // The header of a book.
@@ -63,10 +63,10 @@ pub fn read(book: &[u8]) -> Header
 fn is_short(book: &[u8]) -> bool
     ensures { result ≡ ltb (length book.now) (header_size book.now) }
 {
-    if book.len() < OLD_HEADER {
+    if book.len() < Form::Old.header() {
         return true;
     }
-    book.len() < header_for(word(book, 10))
+    book.len() < Form::told_by(word(book, 10)).header()
 }
 
 // Whether a book is refused, for whatever bytes: the smallest number that applies, at the earliest place.
@@ -138,10 +138,6 @@ pub fn question(book: &[u8]) -> [u8; RECORD]
     let n = ATOM * count;
     let mut r = [255u8; RECORD];
     r[0] = count as u8;
-    let mut i: usize = 0;
-    while i < n {
-        r[1 + i] = book[q + i];
-        i = i + 1;
-    }
+    r[1..1 + n].copy_from_slice(&book[q..q + n]);
     r
 }

@@ -1,6 +1,6 @@
 -- What became of a copy, from what was written: nothing where it is refused, else the bytes that were put at the front.
 -- Assumes nothing.
-use mathlib.Core.Path.{◌≡◌, refl, sym, ◌∙◌, ap, subst}
+use mathlib.Core.Path.{◌≡◌, refl, sym, ◌∙◌, ap}
 use mathlib.Core.List.{List, ◌++◌}
 use mathlib.Core.Bool.{not}
 use mathlib.Core.Logic.{◌⊎◌, inl, inr}
@@ -11,7 +11,6 @@ use borrow.Author.Tests.{eq-eqb, lt-ltb, le-ltb}
 use lib.Dec.{T, eqb, eqb→eq}
 use lib.ListN.{length, drop}
 use Rattle.covering.specs.Put.{Puts}
-use Rattle.covering.proofs.Putting.{put_as}
 use Rattle.covering.proofs.Tests.{decide, clash, le_or_lt, true→T}
 use Rattle.std.proofs.Common.{Result, Ok, Err}
 use Rattle.std.specs.Result.{IsErrAnd}
@@ -20,13 +19,12 @@ use Rattle.reading.specs.declared.Refused.{Refused}
 use Rattle.reading.specs.Refusal.{Refusal}
 use Rattle.reading.specs.Told.{number_of, judged, number_told, place_told}
 use Rattle.reading.proofs.ToldOnce.{some_number}
-use Rattle.reading.specs.Header.{BookForm, old, new, form_for}
+use Rattle.reading.specs.Header.{old, new}
 use Rattle.reading.specs.Book.{book_of}
 use Rattle.reading.specs.Verdict.{told, verdict, SoundBook}
 use Rattle.reading.specs.Written.{book_bytes}
 use Rattle.reading.specs.Copy.{no_old_form, Copied, copied, refused, copy_room, copy_answer, copy_written, Copies, CopiesNew}
 use Rattle.reading.specs.Copy.{CopiesOld, to_new, to_old, after_book}
-use Rattle.reading.proofs.Forms.{says_new_lem, says_old}
 use Rattle.reading.proofs.CopyCases.{to_new_sound, to_old_sound, to_old_not, to_new_room, to_old_room, to_new_own}
 use Rattle.reading.proofs.CopyCases.{to_old_own, copied≢refused, little_room, book_refused}
 use Rattle.reading.proofs.Copies.{sound_fits_new, new_copy, old_copy}
@@ -48,19 +46,6 @@ copies_put {c} {l} {out} {after} {end} e p =
           ∙ ap (λ (n : ℕ). l ++ drop n out) long
           ∙ ap (λ (x : Copied). copy_written x out) (sym e);
     }
-
--- the two forms by their relations' offsets
-new_is : form_for 20 ≡ new
-new_is = says_new_lem 20 refl
-
-old_is : form_for 18 ≡ old
-old_is = says_old 18 refl
-
-pub new_own : (form_for 20).header ≡ 20
-new_own = ap (λ (f : BookForm). f.header) new_is
-
-pub old_own : (form_for 18).header ≡ 18
-old_own = ap (λ (f : BookForm). f.header) old_is
 
 -- what a refusal says of a copy, and what a `?` hands on
 abbrev RefusedAs : Copied → Refused → Type 0
@@ -105,23 +90,18 @@ module _ (B : List ℕ) (room : ℕ) where
         ap (λ (x : Refusal). x.number) (sym d)
 
 module _ (B : List ℕ) (sound : SoundBook B) where
-  pub new_ready : BookReady B (form_for 20)
-  new_ready = subst (BookReady B) (sym new_is) (record { sound = sound; fits = sound_fits_new B sound })
+  pub new_ready : BookReady B new
+  new_ready = record { sound = sound; fits = sound_fits_new B sound }
 
-  pub old_ready : no_old_form B ≡ none → BookReady B (form_for 18)
-  old_ready n = subst (BookReady B) (sym old_is) (record { sound = sound; fits = none_fits B sound n })
+  pub old_ready : no_old_form B ≡ none → BookReady B old
+  old_ready n = record { sound = sound; fits = none_fits B sound n }
 
   module _ {out after : List ℕ} {end : ℕ} (long : copy_room ≤ length out) where
-    pub new_copied : Puts (book_bytes (form_for 20) (book_of B)) out 0 end after → CopiesNew B out 0 end after
-    new_copied p =
-        copies_put (to_new_sound B (length out) long sound)
-        (put_as (ap (λ (f : BookForm). book_bytes f (book_of B)) (sym new_is)) p)
+    pub new_copied : Puts (book_bytes new (book_of B)) out 0 end after → CopiesNew B out 0 end after
+    new_copied p = copies_put (to_new_sound B (length out) long sound) p
 
-    pub old_copied : no_old_form B ≡ none → Puts (book_bytes (form_for 18) (book_of B)) out 0 end after
-        → CopiesOld B out 0 end after
-    old_copied n p =
-        copies_put (to_old_sound B (length out) long sound n)
-        (put_as (ap (λ (f : BookForm). book_bytes f (book_of B)) (sym old_is)) p)
+    pub old_copied : no_old_form B ≡ none → Puts (book_bytes old (book_of B)) out 0 end after → CopiesOld B out 0 end after
+    old_copied n p = copies_put (to_old_sound B (length out) long sound n) p
 
   -- 13, where the search found a byte
   pub old_refused : (room : ℕ) → copy_room ≤ room → (e : Refused) → judged (Err e) ≡ told 13 (no_old_form B)

@@ -4,21 +4,13 @@ use mathlib.Core.List.{List, [], ◌∷◌, ◌++◌}
 use Prim.Native.Nat.{ℕ, zero, suc, ◌+◌, ◌≤◌, ◌<◌}
 use native.Mathlib.Numerals.{add-one}
 use native.Mathlib.Omega.{arith}
-use lib.ListN.{length, get_or, set, take, drop, length-drop, length-set}
-use lib.Seq.{take-suc, get_or-drop}
+use lib.ListN.{length, get_or, set, take, length-set}
+use lib.Seq.{take-suc}
 use Rattle.covering.specs.Lists.{gather}
 use Rattle.covering.specs.Put.{Puts}
 use Rattle.covering.proofs.Lists.{gather_append}
 use Rattle.covering.proofs.Putting.{put_one, then}
 use Rattle.reading.specs.Word.{word_bytes}
-
--- one byte more of those from i on
-pub byte_more : (B : List ℕ) (i k : ℕ) → i + k < length B
-    → take (k + 1) (drop i B) ≡ take k (drop i B) ++ get_or B (i + k) 0 ∷ []
-byte_more B i k l =
-    ap (λ (n : ℕ). take n (drop i B)) (add-one k)
-    ∙ take-suc (drop i B) k 0 (omega (arith, length-drop i B))
-    ∙ ap (λ (b : ℕ). take k (drop i B) ++ b ∷ []) (get_or-drop i B k 0)
 
 -- one word more
 pub word_more : (ws : List ℕ) (k : ℕ) → k < length ws
@@ -37,6 +29,11 @@ pub word_fits : {ws : List ℕ} → AreWords ws → (k : ℕ) → get_or ws k 0 
 word_fits none k = omega arith
 word_fits (more h f) zero = h
 word_fits (more h f) (suc k) = word_fits f k
+
+pub words_taken : {ws : List ℕ} (n : ℕ) → AreWords ws → AreWords (take n ws)
+words_taken zero f = none
+words_taken (suc n) none = none
+words_taken (suc n) (more h f) = more h (words_taken n f)
 
 -- two bytes are stored
 pub put_two : (t : List ℕ) (at a b : ℕ) → at + 2 ≤ length t

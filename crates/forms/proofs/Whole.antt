@@ -1,12 +1,13 @@
 -- A whole book put: its relations, its rules and its question one after the other, and the header before them once it
 -- is known where they end. Assumes nothing.
-use mathlib.Core.Path.{◌≡◌, sym, ◌∙◌, ap, ap₂, subst}
+use mathlib.Core.Path.{◌≡◌, refl, sym, ◌∙◌, ap, ap₂, subst}
 use mathlib.Core.Logic.{◌⊎◌, inl, inr}
 use mathlib.Core.List.Memᴰ
 use mathlib.Core.List.{List, [], ◌∷◌}
 use Prim.Native.Nat.{ℕ, ◌+◌, ◌*◌, ◌/◌, ◌≤◌, ◌<◌}
 use native.Mathlib.Omega.{arith}
 use lib.ListN.{length, get_or, take, drop}
+use lib.Seq.{length-take-le}
 use Rattle.covering.specs.Lists.{◌∈◌, gather}
 use Rattle.covering.specs.Term.{Term, Atom, Question}
 use Rattle.covering.specs.Asking.{answer_most, answer_atom, with_answer, joined}
@@ -17,7 +18,7 @@ use Rattle.covering.proofs.Lengths.{atoms_long}
 use Rattle.covering.proofs.Putting.{put_as, then, first, kept}
 use Rattle.reading.specs.declared.Header.{Header}
 use Rattle.reading.specs.Word.{word_bytes}
-use Rattle.reading.specs.Header.{BookForm, old, new, form_for, header_of, atoms, question_at}
+use Rattle.reading.specs.Header.{BookForm, old, new, header_of, atoms, question_at}
 use Rattle.reading.specs.Header.{atom_places, answer_records}
 use Rattle.reading.specs.Book.{Book, book_of}
 use Rattle.reading.specs.Verdict.{SoundBook}
@@ -25,7 +26,10 @@ use Rattle.reading.specs.Written.{rules_bytes, question_bytes, rules_offset, que
 use Rattle.reading.specs.Written.{header_words, header_bytes, contents_bytes, book_bytes}
 use Rattle.reading.proofs.BookFit.{book_constants, relation_count, rule_count, atom_count}
 use Rattle.reading.proofs.Fits.{joined_count}
-use Rattle.reading.proofs.Forms.{for_cases, for_known}
+use Rattle.reading.proofs.Forms.{FormKnown, for_known, says_old, says_new_lem}
+use Rattle.judging.specs.declared.form.Form.{Form}
+use Rattle.judging.specs.declared.form.Form.TheVariants.{Old, New}
+use Rattle.judging.specs.Forms.{form_named}
 use Rattle.reading.proofs.QuestionRead.{joined_question}
 use Rattle.reading.proofs.Reading.{book_places, book_allowed}
 use Rattle.reading.proofs.SoundBook.{sound_header, holding_room}
@@ -35,7 +39,7 @@ use Rattle.reading.proofs.WrittenSize.{total_most}
 use Rattle.forms.specs.Ready.{BookReady}
 use Rattle.forms.proofs.Headed.{Headed, headed}
 use Rattle.forms.proofs.Rules.{atom_few}
-use Rattle.forms.proofs.Steps.{AreWords, none, more, word_fits}
+use Rattle.forms.proofs.Steps.{AreWords, none, more, word_fits, words_taken}
 
 -- an answer record has at most four places, and every form has as many
 joined_few : (f : BookForm) (ts : List Term) (A : Question) → length ts ≤ answer_most → answer_most ≤ f.places
@@ -53,9 +57,18 @@ abbrev nine_words : Header → ℕ → ℕ → ℕ → ℕ → List ℕ → List
 nine_words h t start question end ws =
     h.relations ∷ h.constants ∷ h.rules ∷ h.atoms ∷ h.allowed ∷ t ∷ start ∷ question ∷ end ∷ ws
 
-module _ (B : List ℕ) (t : ℕ) (ready : BookReady B (form_for t)) (own : (form_for t).header ≡ t) where
+-- what is known of a form by its name
+pub named_cases : (F : Form) → (form_named F ≡ old) ⊎ (form_named F ≡ new)
+named_cases Old = inl refl
+named_cases New = inr refl
+
+pub named_known : (F : Form) → FormKnown (form_named F)
+named_known Old = subst FormKnown (says_old 18 refl) (for_known 18)
+named_known New = subst FormKnown (says_new_lem 20 refl) (for_known 20)
+
+module _ (B : List ℕ) (F : Form) {t : ℕ} (ready : BookReady B (form_named F)) (own : (form_named F).header ≡ t) where
   abbrev f : BookForm
-  f = form_for t
+  f = form_named F
 
   abbrev b : Book
   b = book_of B
@@ -70,7 +83,7 @@ module _ (B : List ℕ) (t : ℕ) (ready : BookReady B (form_for t)) (own : (for
 
     -- there is room for the relations
     pub table_room : t + h.relations ≤ 2003
-    table_room = omega (arith, own, hd.relations_are, relation_count B s, total_most f b (for_cases t) ready.fits)
+    table_room = omega (arith, own, hd.relations_are, relation_count B s, total_most f b (named_cases F) ready.fits)
 
     -- the relations as the book that is meant has them
     table_bytes : b.places ≡ take h.relations (drop h.table B)
@@ -83,7 +96,7 @@ module _ (B : List ℕ) (t : ℕ) (ready : BookReady B (form_for t)) (own : (for
         start_is = p₁.ends ∙ ap₂ ◌+◌ (sym own) (ap length (sym table_bytes))
 
         pub rules_room : start + length (rules_bytes f b.rules) ≤ length u₁
-        rules_room = omega (arith, start_is, kept p₁, long, total_most f b (for_cases t) ready.fits)
+        rules_room = omega (arith, start_is, kept p₁, long, total_most f b (named_cases F) ready.fits)
 
         module _ {u₂ : List ℕ} {question n v : ℕ} (p₂ : Puts (rules_bytes f b.rules) u₁ start question u₂)
             (count : n ≡ answer_records B + h.atoms) (places : v ≡ f.places)
@@ -119,7 +132,7 @@ module _ (B : List ℕ) (t : ℕ) (ready : BookReady B (form_for t)) (own : (for
             question_few a m =
                 let k =
                 joined_few f b.question.answer b.question.atoms ready.fits.answer_count
-                (for_known t).some_places (λ x l. atom_few f b ready.fits x (ready.fits.atoms x l)) a
+                (named_known F).some_places (λ x l. atom_few f b ready.fits x (ready.fits.atoms x l)) a
                 (subst (λ (A : Question). a ∈ A) question_atoms m) in
                 omega (arith, places)
 
@@ -137,7 +150,7 @@ module _ (B : List ℕ) (t : ℕ) (ready : BookReady B (form_for t)) (own : (for
                   kept p₁,
                   kept p₂,
                   long,
-                  total_most f b (for_cases t) ready.fits,
+                  total_most f b (named_cases F) ready.fits,
                 )
 
             module _ {u₃ : List ℕ} {end : ℕ}
@@ -156,26 +169,34 @@ module _ (B : List ℕ) (t : ℕ) (ready : BookReady B (form_for t)) (own : (for
 
                 words_fit_all : AreWords (nine (v ∷ []))
                 words_fit_all =
-                    let l = total_most f b (for_cases t) ready.fits in
+                    let l = total_most f b (named_cases F) ready.fits in
                     let known = sound_header B s in
                     more {n = h.relations} (omega (arith, hd.relations_are, known.few_relations))
                     (more {n = h.constants} (omega (arith, hd.constants_are, known.few_constants))
                     (more {n = h.rules} (omega (arith, hd.rules_are, known.few_rules))
                     (more {n = h.atoms} (omega (arith, hd.atoms_are, known.few_atoms))
                     (more {n = h.allowed} (omega (arith, hd.allowed_is, known.few_allowed))
-                    (more {n = t} (omega (arith, own, (for_known t).few_header))
+                    (more {n = t} (omega (arith, own, (named_known F).few_header))
                     (more {n = start} (omega (arith, start_is, l))
                     (more {n = question} (omega (arith, question_offset_lem, l))
                     (more {n = end} (omega (arith, end_is, l))
-                    (more {n = v} (omega (arith, places, (for_known t).few_places)) none)))))))))
+                    (more {n = v} (omega (arith, places, (named_known F).few_places)) none)))))))))
 
-                pub words_fit : (k : ℕ) → get_or (nine (v ∷ [])) k 0 < 65536
-                words_fit = word_fits words_fit_all
+                pub words_fit : (k : ℕ) → get_or (take (t / 2) (nine (v ∷ []))) k 0 < 65536
+                words_fit = word_fits (words_taken (t / 2) words_fit_all)
 
-                pub words_room : (t / 2 ≤ 10) × (2 * (t / 2) ≤ length u₃)
+                pub few_words : t / 2 ≤ 10
+                few_words = omega (arith, own, (named_known F).few_header)
+
+                pub words_room : 2 * length (take (t / 2) (nine (v ∷ []))) ≤ length u₃
                 words_room =
-                    let k = kept contents_put in
-                    (omega (arith, own, (for_known t).few_header), omega (arith, own, (for_known t).few_header, long))
+                    omega (
+                      arith,
+                      few_words,
+                      length-take-le (t / 2) (nine (v ∷ [])) few_words,
+                      kept contents_put,
+                      long,
+                    )
 
                 nine_are : (ws : List ℕ) → length b.places ∷ b.constants ∷ length b.rules
                     ∷ length b.question.atoms ∷ b.allowed ∷ f.header ∷ rules_offset f b ∷ question_offset f b
@@ -218,8 +239,8 @@ module _ (B : List ℕ) (t : ℕ) (ready : BookReady B (form_for t)) (own : (for
                 unfolding book_bytes header_bytes
                 book_put {u₄} {stop} p₄ =
                     let there : Puts (gather word_bytes (header_words f b)) u₃ 0 stop u₄ =
-                    put_as (ap (gather word_bytes) (words_are (for_cases t))) p₄ in
+                    put_as (ap (gather word_bytes) (words_are (named_cases F))) p₄ in
                     let up : stop ≡ t =
-                    omega (arith, there.ends, words_long (header_words f b), header_long (for_cases t)) in
+                    omega (arith, there.ends, words_long (header_words f b), header_long (named_cases F)) in
                     first contents_put (omega arith)
                     (subst (λ (k : ℕ). Puts (gather word_bytes (header_words f b)) u₃ 0 k u₄) up there)

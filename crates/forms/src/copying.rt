@@ -8,7 +8,7 @@ use crate::BOOK;
 use crate::old_form::no_old_form;
 use crate::put::put_book;
 use book::check;
-use judging::{NEW_HEADER, OLD_HEADER};
+use judging::Form;
 use reading::{Reason, Refused};
 
 // Refused 1 where there is too little room, then as the book itself is.
@@ -34,7 +34,7 @@ pub fn to_new(book: &[u8], out: &mut [u8]) -> Result<usize, Refused>
         out.new }
 {
     ready(book, out.len())?;
-    Ok(put_book(book, out, NEW_HEADER))
+    Ok(put_book(book, out, Form::New))
 }
 
 // The book in the old form, and its length: refused 1 where there is too little room, then as the book itself is, then 13
@@ -49,5 +49,5 @@ pub fn to_old(book: &[u8], out: &mut [u8]) -> Result<usize, Refused>
 {
     ready(book, out.len())?;
     no_old_form(book)?;
-    Ok(put_book(book, out, OLD_HEADER))
+    Ok(put_book(book, out, Form::Old))
 }

@@ -1,16 +1,17 @@
-// A sound book put into a buffer in a wanted form. A form is known by its relations' offset, `table`: 18 or 20.
+// A sound book put into a buffer in a wanted form.
 ghost use Rattle.std.specs.Prelude.{◌≡◌, ℕ, ◌+◌, ◌*◌, ◌≤◌, ◌<◌, length, get_or, take, drop};
 ghost use Rattle.covering.specs.Lists.{gather};
 ghost use Rattle.covering.specs.Put.{Puts};
 ghost use Rattle.reading.specs.Word.{word_bytes};
-ghost use Rattle.reading.specs.Header.{header_of, form_for, atom_places};
+ghost use Rattle.reading.specs.Header.{header_of, atom_places};
+ghost use Rattle.judging.specs.Forms.{form_named};
 ghost use Rattle.reading.specs.Book.{book_of, rule_at};
 ghost use Rattle.reading.specs.Written.{rule_bytes, rules_bytes, book_bytes};
 ghost use Rattle.reading.specs.Copy.{copy_room};
 ghost use Rattle.forms.specs.Ready.{RuleReady, BookReady};
 
 use book::{Header, answers, read};
-use judging::places_for;
+use judging::Form;
 use records::copy_atoms;
 use writing::put_word;
 
@@ -24,42 +25,40 @@ fn put_bytes(from: &[u8], i: usize, n: usize, out: &mut [u8], at: usize) -> usiz
         result
         out.new }
 {
-    for k in 0..n {
-        out[at + k] = from[i + k];
-    }
+    out[at..at + n].copy_from_slice(&from[i..i + n]);
     at + n
 }
 
-// Puts the first n words at the front, and answers where they end.
-fn put_words(words: &[usize], n: usize, out: &mut [u8]) -> usize
-    requires { (n ≤ length words.now) × ((k : ℕ) → get_or words.now k 0 < 65536) × (2 * n ≤ length out.old) }
+// Puts words at the front, and answers where they end.
+fn put_words(words: &[usize], out: &mut [u8]) -> usize
+    requires { ((k : ℕ) → get_or words.now k 0 < 65536) × (2 * length words.now ≤ length out.old) }
     ensures { Puts
-        (gather word_bytes (take n words.now))
+        (gather word_bytes words.now)
         out.old
         0
         result
         out.new }
 {
     let mut at = 0;
-    for k in 0..n {
-        at = put_word(out, at, words[k]);
+    for word in words {
+        at = put_word(out, at, *word);
     }
     at
 }
 
 // Puts the rule that starts at s, whose atoms have w places, and answers where it ends.
-fn put_rule(book: &[u8], s: usize, w: usize, out: &mut [u8], at: usize, table: usize) -> usize
-    requires { RuleReady book.now s (form_for table)
+fn put_rule(book: &[u8], s: usize, w: usize, out: &mut [u8], at: usize, form: Form) -> usize
+    requires { RuleReady book.now s (form_named form)
         × (w ≡ atom_places book.now)
-        × (at + length (rule_bytes (form_for table) (rule_at book.now s)) ≤ length out.old) }
+        × (at + length (rule_bytes (form_named form) (rule_at book.now s)) ≤ length out.old) }
     ensures { Puts
-        (rule_bytes (form_for table) (rule_at book.now s))
+        (rule_bytes (form_named form) (rule_at book.now s))
         out.old
         at
         result
         out.new }
 {
-    let v = places_for(table);
+    let v = form.places();
     let bodies = book[s];
     let heads = book[s + 1];
     out[at] = bodies;
@@ -71,12 +70,12 @@ fn put_rule(book: &[u8], s: usize, w: usize, out: &mut [u8], at: usize, table: u
 }
 
 // Puts the rules of a book with the header h, and answers where they end.
-fn put_rules(book: &[u8], h: Header, out: &mut [u8], at: usize, table: usize) -> usize
-    requires { BookReady book.now (form_for table)
+fn put_rules(book: &[u8], h: Header, out: &mut [u8], at: usize, form: Form) -> usize
+    requires { BookReady book.now (form_named form)
         × (h ≡ header_of book.now)
-        × (at + length (rules_bytes (form_for table) (book_of book.now).rules) ≤ length out.old) }
+        × (at + length (rules_bytes (form_named form) (book_of book.now).rules) ≤ length out.old) }
     ensures { Puts
-        (rules_bytes (form_for table) (book_of book.now).rules)
+        (rules_bytes (form_named form) (book_of book.now).rules)
         out.old
         at
         result
@@ -87,7 +86,7 @@ fn put_rules(book: &[u8], h: Header, out: &mut [u8], at: usize, table: usize) ->
     let mut s = h.start;
     let mut end = at;
     for k in 0..n {
-        end = put_rule(book, s, w, out, end, table);
+        end = put_rule(book, s, w, out, end, form);
         s += 2 + (1 + w) * (usize::from(book[s]) + usize::from(book[s + 1]));
     }
     end
@@ -95,21 +94,21 @@ fn put_rules(book: &[u8], h: Header, out: &mut [u8], at: usize, table: usize) ->
 
 // Puts the book, and answers where it ends. The header is put last, once it is known where the rules and the question
 // end: nine words, and in the new form a tenth.
-pub fn put_book(book: &[u8], out: &mut [u8], table: usize) -> usize
-    requires { BookReady book.now (form_for table)
-        × ((form_for table).header ≡ table)
+pub fn put_book(book: &[u8], out: &mut [u8], form: Form) -> usize
+    requires { BookReady book.now (form_named form)
         × (copy_room ≤ length out.old) }
     ensures { Puts
-        (book_bytes (form_for table) (book_of book.now))
+        (book_bytes (form_named form) (book_of book.now))
         out.old
         0
         result
         out.new }
 {
     let h = read(book);
-    let v = places_for(table);
+    let table = form.header();
+    let v = form.places();
     let start = put_bytes(book, h.table, h.relations, out, table);
-    let question = put_rules(book, h, out, start, table);
+    let question = put_rules(book, h, out, start, form);
     let n = answers(h) + h.atoms;
     let end = copy_atoms(book, h.question, n, h.places, out, question, v);
     let words = [
@@ -124,6 +123,6 @@ pub fn put_book(book: &[u8], out: &mut [u8], table: usize) -> usize
         end,
         v,
     ];
-    put_words(&words, table / 2, out);
+    put_words(&words[..table / 2], out);
     end
 }

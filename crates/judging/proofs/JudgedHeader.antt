@@ -9,13 +9,23 @@ use lib.ListN.{length}
 use Rattle.covering.specs.Record.{new_places}
 use Rattle.reading.specs.declared.Header.{Header}
 use Rattle.reading.specs.Header.{header_size, relations, constants, rules, atoms, question_at, end_with, answer_records}
-use Rattle.reading.specs.Header.{announced, atom_size}
+use Rattle.reading.specs.Header.{BookForm, form_for, announced, atom_size}
+use Rattle.judging.specs.declared.form.Form.{Form}
+use Rattle.judging.specs.Forms.{form_named}
 use Rattle.reading.specs.Book.{rules_start}
 use Rattle.reading.specs.Verdict.{form_in, wrong_rule}
 use Rattle.judging.specs.Judged.{HeaderRight}
 use Rattle.reading.proofs.Forms.{form_known}
 use Rattle.reading.proofs.FoundQuestion.{records_one}
 use Rattle.reading.proofs.Known.{HeaderKnown, header_known, records_told}
+
+-- what a form says of a header, by the offset that told it
+module _ (t : ℕ) (f : Form) (told : form_named f ≡ form_for t) {n : ℕ} where
+  pub is_header : n ≡ (form_named f).header → n ≡ (form_for t).header
+  is_header e = e ∙ ap (λ (x : BookForm). x.header) told
+
+  pub is_places : n ≡ (form_named f).places → n ≡ (form_for t).places
+  is_places e = e ∙ ap (λ (x : BookForm). x.places) told
 
 module _ {B : List ℕ} {h : Header} where
   pub known : HeaderRight B h → HeaderKnown B h

@@ -1,30 +1,11 @@
-// What is wrong with a header, which form it tells, and whether it announces an answer record.
+// What is wrong with a header, and whether it announces an answer record.
 ghost use Rattle.std.specs.Prelude.{◌≡◌, cond, ◌<◌, eqb};
-ghost use Rattle.reading.specs.Header.{form_for, end_with};
+ghost use Rattle.reading.specs.Header.{end_with};
 ghost use Rattle.reading.specs.Verdict.{form_in, in_table, offsets_right};
 
 use super::Header;
-use super::words::{NEW_HEADER, OLD_HEADER, OLD_PLACES, PLACES, atoms_size, within};
-
-// The bytes of the header of a book whose relations are at `table`.
-pub fn header_for(table: usize) -> usize
-    ensures { result ≡ (form_for table).header }
-{
-    if table == NEW_HEADER {
-        return NEW_HEADER;
-    }
-    OLD_HEADER
-}
-
-// The places of its atoms.
-pub fn places_for(table: usize) -> usize
-    ensures { result ≡ (form_for table).places }
-{
-    if table == NEW_HEADER {
-        return PLACES;
-    }
-    OLD_PLACES
-}
+use super::form::Form;
+use super::words::{atoms_size, within};
 
 // Whether the counts are in the table, and the places those of the form.
 pub fn in_table(h: Header) -> bool
@@ -35,7 +16,7 @@ pub fn in_table(h: Header) -> bool
     let r = within(h.rules, 0, 32);
     let n = within(h.atoms, 1, 8);
     let l = within(h.allowed, 1, 1000);
-    let w = h.places == places_for(h.table);
+    let w = h.places == Form::told_by(h.table).places();
     p & (c & (r & (n & (l & w))))
 }
 
@@ -44,8 +25,9 @@ pub fn offsets_right(h: Header, size: usize) -> bool
     requires { (h.relations < 65536) × (h.atoms < 65536) × (h.question < 65536) }
     ensures { result ≡ offsets_right h size }
 {
-    let first = header_for(h.table);
-    let w = places_for(h.table);
+    let form = Form::told_by(h.table);
+    let first = form.header();
+    let w = form.places();
     let t = h.table == first;
     let s = h.start == first + h.relations;
     let q = h.start <= h.question;
@@ -60,7 +42,7 @@ pub fn answers(h: Header) -> usize
     requires { (h.atoms < 65536) × (h.question < 65536) }
     ensures { result ≡ cond (eqb h.total (end_with (form_in h) h.question h.atoms)) 1 0 }
 {
-    let w = places_for(h.table);
+    let w = Form::told_by(h.table).places();
     if h.total == h.question + atoms_size(w, h.atoms + 1) {
         return 1;
     }

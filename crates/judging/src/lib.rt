@@ -2,12 +2,14 @@
 #![tactic(auto)]
 
 mod answer;
+mod form;
 mod headed;
 mod header;
 mod judge;
 mod words;
 
+pub use form::Form;
 pub use headed::contents;
-pub use header::{answers, header_for, in_table, offsets_right, places_for};
+pub use header::{answers, in_table, offsets_right};
 use reading::Header;
-pub use words::{ATOM, NEW_HEADER, OLD_HEADER, OLD_PLACES, PLACES, word};
+pub use words::{ATOM, OLD_PLACES, word};

@@ -28,7 +28,7 @@ pub fn word(s: &[u8], i: usize) -> usize
     requires { i + 2 ≤ length s.now }
     ensures { (result ≡ word_at s.now i) × (result < 65536) }
 {
-    usize::from(s[i]) + 256 * usize::from(s[i + 1])
+    usize::from(u16::from_le_bytes([s[i], s[i + 1]]))
 }
 
 // The bytes of n atoms of w places.
@@ -47,12 +47,9 @@ pub fn variables(w: usize) -> usize
     8 * w
 }
 
-// Whether n is least to most.
+// Whether n is least to most: the library's test of a range, proved once to be the table's.
 pub fn within(n: usize, least: usize, most: usize) -> bool
     ensures { result ≡ is_within least most n }
 {
-    if n < least {
-        return false;
-    }
-    n <= most
+    (least..=most).contains(&n)
 }

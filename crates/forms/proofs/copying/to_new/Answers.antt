@@ -1,7 +1,7 @@
 -- `forms::copying::to_new` meets its contract: too little room, then the book's own, then the copy.
 use Rattle.covering.proofs.Putting.{kept}
 use Rattle.reading.specs.Copy.{to_new}
-use Rattle.forms.proofs.Outcome.{copies_refused, first_refused, is_room, is_sound, new_own, new_ready, new_copied}
+use Rattle.forms.proofs.Outcome.{copies_refused, first_refused, is_room, is_sound, new_ready, new_copied}
 use Rattle.forms.proofs.copying.to_new.Goals as goal
 
 pub returns-in_err-ready : goal.returns-in_err-ready
@@ -13,7 +13,7 @@ pub put_book-requires : goal.put_book-requires
 put_book-requires c =
     let B = c.args.book.now in
     let h = c.in_ok-ready.ensures in
-    (new_ready B (is_sound B _ h), new_own, is_room B _ h)
+    (new_ready B (is_sound B _ h), is_room B _ h)
 
 pub shape_of-out : goal.shape_of-out
 shape_of-out c = kept c.put_book.ensures

@@ -4,7 +4,7 @@ use Rattle.std.proofs.Common.{arith}
 use Rattle.covering.proofs.Putting.{kept}
 use Rattle.reading.specs.Copy.{to_old}
 use Rattle.judging.proofs.JudgingSteps.{found_none}
-use Rattle.forms.proofs.Outcome.{copies_refused, first_refused, is_room, is_sound, old_own, old_ready, old_copied, old_refused}
+use Rattle.forms.proofs.Outcome.{copies_refused, first_refused, is_room, is_sound, old_ready, old_copied, old_refused}
 use Rattle.forms.proofs.copying.to_old.Goals as goal
 
 pub returns-in_err-ready : goal.returns-in_err-ready
@@ -26,7 +26,7 @@ pub put_book-requires : goal.put_book-requires
 put_book-requires c =
     let B = c.args.book.now in
     let h = c.in_ok-ready.ensures in
-    (old_ready B (is_sound B _ h) (found_none 13 _ (omega arith) c.in_ok-no_old_form.ensures), old_own, is_room B _ h)
+    (old_ready B (is_sound B _ h) (found_none 13 _ (omega arith) c.in_ok-no_old_form.ensures), is_room B _ h)
 
 pub shape_of-out : goal.shape_of-out
 shape_of-out c = kept c.put_book.ensures

@@ -23,9 +23,9 @@ bounds-out-at-2 c = simp length-set (omega (arith, room _ _ _ _ c.requires.2))
 
 pub copy_atoms-end-requires : goal.copy_atoms-end-requires
 copy_atoms-end-requires c = (
-  body_in c.requires.0 c.requires.1 c.from-b.ensures c.from-h.ensures c.places_for-v.ensures,
-  body_few c.requires.0 c.requires.1 c.from-b.ensures c.from-h.ensures c.places_for-v.ensures,
-  simp length-set (rw (c.from-b.ensures, c.places_for-v.ensures) (omega (arith, room _ _ _ _ c.requires.2))),
+  body_in c.requires.0 c.requires.1 c.from-b.ensures c.from-h.ensures c.places-v.ensures,
+  body_few c.requires.0 c.requires.1 c.from-b.ensures c.from-h.ensures c.places-v.ensures,
+  simp length-set (rw (c.from-b.ensures, c.places-v.ensures) (omega (arith, room _ _ _ _ c.requires.2))),
 )
 
 pub overflow_add-w : goal.overflow_add-w
@@ -33,24 +33,24 @@ overflow_add-w c = omega (arith, c.requires.1, (form_known c.args.book.now).few_
 
 pub overflow_mul-w : goal.overflow_mul-w
 overflow_mul-w c =
-    omega (arith, (head_in c.requires.0 c.requires.1 c.from-b.ensures c.from-h.ensures c.places_for-v.ensures).fits)
+    omega (arith, (head_in c.requires.0 c.requires.1 c.from-b.ensures c.from-h.ensures c.places-v.ensures).fits)
 
 pub overflow_add-s-3 : goal.overflow_add-s-3
 overflow_add-s-3 c =
-    omega (arith, (head_in c.requires.0 c.requires.1 c.from-b.ensures c.from-h.ensures c.places_for-v.ensures).fits)
+    omega (arith, (head_in c.requires.0 c.requires.1 c.from-b.ensures c.from-h.ensures c.places-v.ensures).fits)
 
 pub copy_atoms-requires : goal.copy_atoms-requires
 copy_atoms-requires c = (
-  head_in c.requires.0 c.requires.1 c.from-b.ensures c.from-h.ensures c.places_for-v.ensures,
-  head_few c.requires.0 c.requires.1 c.from-b.ensures c.from-h.ensures c.places_for-v.ensures,
-  head_room c.requires.0 c.requires.1 c.from-b.ensures c.from-h.ensures c.places_for-v.ensures c.args.at c.copy_atoms-end.ensures
+  head_in c.requires.0 c.requires.1 c.from-b.ensures c.from-h.ensures c.places-v.ensures,
+  head_few c.requires.0 c.requires.1 c.from-b.ensures c.from-h.ensures c.places-v.ensures,
+  head_room c.requires.0 c.requires.1 c.from-b.ensures c.from-h.ensures c.places-v.ensures c.args.at c.copy_atoms-end.ensures
       (simp length-set (room _ _ _ _ c.requires.2)),
 )
 
 pub returns : goal.returns
 returns c =
     let a = c.args in
-    put_as (rule_put c.requires.0 c.requires.1 c.from-b.ensures c.from-h.ensures c.places_for-v.ensures)
+    put_as (rule_put c.requires.0 c.requires.1 c.from-b.ensures c.from-h.ensures c.places-v.ensures)
     (then
     (put_two a.out.now a.at (body_count a.book.now a.s) (head_count a.book.now a.s)
     (omega (arith, room _ _ _ _ c.requires.2)))

@@ -1,7 +1,7 @@
 -- `forms::put::put_rules` meets its contract. The loop's invariant: the rules passed are put.
-use Rattle.reading.specs.Header.{form_for}
+use Rattle.judging.specs.Forms.{form_named}
 use Rattle.forms.proofs.Rules.{SoFar}
 use Rattle.forms.proofs.put.put_rules.Given as goal
 
 abbrev pub invariant-loop-k : goal.invariant-loop-k
-invariant-loop-k l = SoFar l.book (form_for l.table) l.initial.out l.at l.out l.s l.end l.k
+invariant-loop-k l = SoFar l.book (form_named l.form) l.initial.out l.at l.out l.s l.end l.k

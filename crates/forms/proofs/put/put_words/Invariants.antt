@@ -5,5 +5,5 @@ use Rattle.covering.specs.Put.{Puts}
 use Rattle.reading.specs.Word.{word_bytes}
 use Rattle.forms.proofs.put.put_words.Given as goal
 
-abbrev pub invariant-loop-k : goal.invariant-loop-k
-invariant-loop-k l = (l.at ≡ 2 * l.k) × Puts (gather word_bytes (take l.k l.words)) l.initial.out 0 l.at l.out
+abbrev pub invariant-loop-word : goal.invariant-loop-word
+invariant-loop-word l = (l.at ≡ 2 * l.word-index) × Puts (gather word_bytes (take l.word-index l.words)) l.initial.out 0 l.at l.out

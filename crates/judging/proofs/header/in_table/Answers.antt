@@ -4,6 +4,7 @@ use mathlib.Core.Bool.{◌&&◌}
 use Prim.Native.Nat.{ℕ}
 use lib.Dec.{eqb}
 use Rattle.reading.specs.Verdict.{in_table}
+use Rattle.judging.proofs.JudgedHeader.{is_places}
 use Rattle.judging.proofs.header.in_table.Goals as goal
 
 pub returns : goal.returns
@@ -14,4 +15,4 @@ returns c =
     (ap₂ ◌&&◌ c.within-c.ensures
     (ap₂ ◌&&◌ c.within-r.ensures
     (ap₂ ◌&&◌ c.within-n.ensures
-    (ap₂ ◌&&◌ c.within-l.ensures (ap (λ (n : ℕ). eqb places n) c.places_for.ensures)))))
+    (ap₂ ◌&&◌ c.within-l.ensures (ap (λ (n : ℕ). eqb places n) (is_places _ _ c.told_by.ensures c.places.ensures))))))

@@ -8,6 +8,7 @@ use Rattle.covering.specs.Record.{new_places}
 use Rattle.reading.specs.declared.Header.{Header}
 use Rattle.reading.specs.Verdict.{form_in, offsets_right}
 use Rattle.reading.proofs.Forms.{for_known}
+use Rattle.judging.proofs.JudgedHeader.{is_header, is_places}
 use Rattle.judging.proofs.header.offsets_right.Goals as goal
 
 -- an atom has six places at most
@@ -28,18 +29,18 @@ tested h size first places without with_it = cc
 pub overflow_add-s : goal.overflow_add-s
 overflow_add-s c =
     let t = c.args.h.table in
-    omega (arith, c.header_for-first.ensures, (for_known t).few_header)
+    omega (arith, is_header _ _ c.told_by-form.ensures c.header-first.ensures, (for_known t).few_header)
 
 pub atoms_size-requires : goal.atoms_size-requires
 atoms_size-requires c =
     let h = c.args.h in
-    (few h c.places_for-w.ensures, omega arith)
+    (few h (is_places _ _ c.told_by-form.ensures c.places-w.ensures), omega arith)
 
 pub overflow_add-e : goal.overflow_add-e
 overflow_add-e c = omega (arith, c.atoms_size.ensures.1)
 
 pub atoms_size-requires-2 : goal.atoms_size-requires-2
-atoms_size-requires-2 c = (few c.args.h c.places_for-w.ensures, omega arith)
+atoms_size-requires-2 c = (few c.args.h (is_places _ _ c.told_by-form.ensures c.places-w.ensures), omega arith)
 
 pub overflow_add-a : goal.overflow_add-a
 overflow_add-a c =
@@ -49,5 +50,6 @@ overflow_add-a c =
 pub returns : goal.returns
 returns c =
     let a = c.args in
-    tested a.h a.size c.header_for-first.ensures c.places_for-w.ensures
+    let told = c.told_by-form.ensures in
+    tested a.h a.size (is_header _ _ told c.header-first.ensures) (is_places _ _ told c.places-w.ensures)
     c.atoms_size.ensures.0 c.atoms_size-2.ensures.0
