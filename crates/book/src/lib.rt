@@ -13,9 +13,7 @@ ghost use Rattle.covering.specs.Buffer.{held_in, record_room};
 
 use covering::RECORD;
 pub use judging::answers;
-use judging::{
-    ATOM, Form, OLD_PLACES, contents, in_table, offsets_right, word,
-};
+use judging::{ATOM, Form, OLD_PLACES, contents, in_table, offsets_right, word};
 pub use reading::Header;
 use reading::{Reason, Refused};
 
