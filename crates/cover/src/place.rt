@@ -11,6 +11,7 @@ use crate::VARIABLES;
 use covering::RECORD;
 
 // Where the variable t goes once j places of first from i on are sent to those of second from k on: 255 for nowhere.
+// A byte and no Option, since the map has 255 for nowhere too and the clause speaks of its bytes.
 fn goes_to(
     first: &[u8; RECORD],
     second: &[u8; RECORD],

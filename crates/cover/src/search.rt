@@ -158,6 +158,7 @@ fn gives_up(
 // first candidate from which those after it can be placed too. A branch in which some atom has no candidate any more ends
 // at once; that changes no answer. Most searches that are not `careful` find a map at the first try: they look ahead
 // only once a candidate has failed.
+// The map is lent, not given in an Option: that would copy its 96 bytes at each atom.
 #[cycle(place_next_try_candidate)]
 pub fn place_next(
     first: &[u8; RECORD],
