@@ -2,7 +2,7 @@
 use native.Mathlib.Omega.{arith}
 use mathlib.Core.Path.{sym, subst}
 use Prim.Native.Nat.{ℕ, ◌+◌}
-use Rattle.writing.proofs.Members.{SoFar, none_put, all_put, one_put, here_is, here_has, here_narrow, same_room}
+use Rattle.writing.proofs.Members.{SoFar, none_put, one_put, here_is, here_has, here_narrow, same_room}
 use Rattle.writing.proofs.union.put_members.Goals as goal
 
 pub loop-member-init : goal.loop-member-init
@@ -25,10 +25,6 @@ put_member-at-requires c =
 pub bounds-work-from : goal.bounds-work-from
 bounds-work-from c = omega (arith, (here_is _ _ _ _ _ c.loop-member.invariant c.loop-member-test.true).within)
 
-pub overflow_add-from : goal.overflow_add-from
-overflow_add-from c =
-    omega (arith, (here_is _ _ _ _ _ c.loop-member.invariant c.loop-member-test.true).within, c.width-from.ensures)
-
 pub loop-member-preserved : goal.loop-member-preserved
 loop-member-preserved c =
     let a = c.args in
@@ -39,8 +35,3 @@ loop-member-preserved c =
     (sym c.width-from.ensures)
     (one_put _ _ _ _ _ inv c.loop-member-test.true c.requires.3
     c.put_member-at.ensures)
-
-pub returns : goal.returns
-returns c =
-    let inv = c.loop-member.invariant in
-    (all_put _ _ _ _ _ inv c.loop-member-test.false, omega (arith, inv.behind, inv.within))
