@@ -18,7 +18,7 @@ use Rattle.admit.specs.declared.Moved.{Moved}
 use Rattle.exploration.specs.Run.{State, remaining}
 use Rattle.exploration.specs.Union.{first_at, output_size}
 use Rattle.exploration.specs.Held.{held_bytes, held_from, held_end}
-use Rattle.admit.specs.WorkingArray.{Working, rest, HoldsState, state_in, Remain}
+use Rattle.admit.specs.WorkingArray.{Working, Stands, rest, HoldsState, state_in, Remain}
 use Rattle.admit.specs.Sets.{SetsFrom, Beside}
 use Rattle.exploration.specs.Held.{Standing}
 use Rattle.exploration.proofs.HeldBytes.{held_total_lem, held_most, held_append}
@@ -78,6 +78,18 @@ module _ {W : List ℕ} {len count front : ℕ} {s : State} (h : HoldsState W le
 module _ {W : List ℕ} {e : Extent} (w : Working W e) where
   pub stands_all : Standing W first_at e.count
   stands_all = held_stands W w.held w.fits
+
+  -- its members, as they stand
+  pub stands_held : Stands W (held_from W first_at e.count)
+  stands_held =
+      record {
+        size = w.held.size;
+        standing = subst (Standing W first_at) (sym count) stands_all;
+        are = ap (held_from W first_at) count;
+      }
+    where
+      count : length (held_from W first_at e.count) ≡ e.count
+      count = members_count W first_at e.count
 
   -- 64 members of nine atoms are 2,952 bytes
   pub len_most : e.len ≤ output_size

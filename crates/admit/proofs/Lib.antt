@@ -9,3 +9,4 @@ pub mod Beside
 pub mod Removal
 pub mod Array
 pub mod Fates
+pub mod First

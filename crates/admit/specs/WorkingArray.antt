@@ -16,7 +16,7 @@ use Rattle.reading.specs.Told.{number_of}
 use Rattle.exploration.specs.Run.{State, Test, Limits, Why, refusal_number, dropped, admitted, stopped, admit}
 use Rattle.exploration.specs.Run.{remaining}
 use Rattle.exploration.specs.Union.{first_at, output_size}
-use Rattle.exploration.specs.Held.{held_bytes, held_total, held_from}
+use Rattle.exploration.specs.Held.{held_bytes, held_total, held_from, Standing}
 
 -- "One working array" of an output's bytes: the members' records stand one after the other from 8 on and end at `len`;
 -- `count` members, the first `front` of them explored
@@ -72,10 +72,19 @@ rest s P =
       explored = length (remaining covers P (take s.explored s.members));
     }
 
--- What becomes of the rewriting P, and of the working array W, by these limits: X is the array afterwards. Where the run
--- is refused the array does not count any more.
-abbrev pub FateIs : Limits → List ℕ → Extent → Question → List ℕ → Result Fate Reason → Type 0
-FateIs lim W e P X (Ok Dropped) = (admit covers lim (state_in W e) P ≡ dropped) × (X ≡ W)
-FateIs lim W e P X (Ok (Appended f)) = (admit covers lim (state_in W e) P ≡ admitted (state_in X f)) × Working X f
-FateIs lim W e P X (Err r) =
-    (w : Why) × (admit covers lim (state_in W e) P ≡ stopped w) × (number_of r ≡ refusal_number w)
+-- a union with one member, unexplored
+abbrev pub alone : Question → State
+alone P = record { members = P ∷ []; explored = 0 }
+
+-- the members U as they stand in the array W
+pub record Stands (W : List ℕ) (U : List Question) : Type 0 where
+  pub size : length W ≡ output_size
+  pub standing : Standing W first_at (length U)
+  pub are : held_from W first_at (length U) ≡ U
+
+-- What becomes of the rewriting P, and of the union s, by these limits: t is the union afterwards. Where the run is refused
+-- it does not count any more.
+abbrev pub FateIs : Limits → State → Question → State → Result Fate Reason → Type 0
+FateIs lim s P t (Ok Dropped) = (admit covers lim s P ≡ dropped) × (t ≡ s)
+FateIs lim s P t (Ok Appended) = admit covers lim s P ≡ admitted t
+FateIs lim s P t (Err r) = (w : Why) × (admit covers lim s P ≡ stopped w) × (number_of r ≡ refusal_number w)

@@ -3,18 +3,20 @@
 // `exploration`.
 #![tactic(auto)]
 
-mod admitting;
+mod members;
 mod removing;
 mod searching;
 mod sets;
 mod working;
 
-pub use admitting::admit;
-pub use searching::is_covered;
+pub use members::Members;
 pub use working::append;
 
 // "Offset of the first member (8)".
 pub const FIRST: usize = 8;
+
+// "Output room becomes 4,104 for all": 8 and 64 times the record of eight atoms and an answer record, six places each.
+pub const OUTPUT: usize = 4104;
 
 // "A 65th member": there is room for 64.
 pub const ROOM: usize = 64;
@@ -36,10 +38,9 @@ pub struct Moved {
     pub kept: usize,
 }
 
-// What becomes of one rewriting that does not end the run: a member covers it; or it is appended, and the array is filled
-// so far.
+// What becomes of one rewriting that does not end the run: a member covers it, or it is appended.
 #[derive(Clone, Copy)]
 pub enum Fate {
     Dropped,
-    Appended(Extent),
+    Appended,
 }

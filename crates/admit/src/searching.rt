@@ -1,18 +1,17 @@
 // The search for a member that covers a rewriting.
-ghost use Rattle.std.specs.Prelude.{◌≡◌, ◌≤◌, length, replicate};
+ghost use Rattle.std.specs.Prelude.{◌≡◌, length, replicate};
 ghost use Rattle.covering.specs.Search.{covers, first_map};
 ghost use Rattle.covering.specs.FirstMap.{map_or};
 ghost use Rattle.covering.specs.Record.{stored, question_of, SoundRecord};
 ghost use Rattle.records.specs.Relations.{relations_of};
-ghost use Rattle.exploration.specs.Run.{covered};
 ghost use Rattle.exploration.specs.Union.{first_at};
 ghost use Rattle.exploration.specs.Held.{held_from};
 ghost use Rattle.admit.specs.WorkingArray.{first_covering, covered_by};
-ghost use Rattle.admit.specs.Sets.{SetsFrom, Beside};
+ghost use Rattle.admit.specs.Sets.{SetsFrom};
 ghost use Rattle.cover.specs.HeldMap.{Searched};
 ghost use Rattle.exploration.specs.Held.{Standing};
 
-use super::{FIRST, ROOM};
+use super::FIRST;
 use cover::VARIABLES;
 use covering::RECORD;
 
@@ -71,20 +70,4 @@ pub fn member_covering(
         at += records::width(work[at]);
     }
     None
-}
-
-// Whether one of the count members covers the question.
-pub fn is_covered(work: &[u8], sets: &[u64; ROOM], count: usize, question: &[u8; RECORD]) -> bool
-    requires { (count ≤ 64)
-        × Standing work.now first_at count
-        × SoundRecord stored question.now
-        × Beside sets.now work.now count }
-    ensures { result
-        ≡ covered covers
-        (question_of stored question.now)
-        (held_from work.now first_at count) }
-{
-    let there = records::relations(question);
-    let mut map = [255u8; VARIABLES];
-    member_covering(work, &sets[..count], question, there, &mut map).is_some()
 }

@@ -14,17 +14,16 @@ use Rattle.covering.specs.Put.{Puts}
 use Rattle.reading.specs.Header.{atom_places}
 use Rattle.reading.specs.Book.{Book, book_of}
 use Rattle.reading.specs.Verdict.{SoundBook}
-use Rattle.exploration.specs.Run.{run}
+use Rattle.exploration.specs.Run.{State, run}
 use Rattle.exploration.specs.Union.{first_at, output_size, total, union_bytes, members_bytes}
 use Rattle.exploration.specs.Held.{held_from}
 use Rattle.exploration.specs.Answer.{outcome_of, Answers}
 use Rattle.exploration.specs.Refusals.{answers_of}
 use Rattle.exploration.proofs.Returns.{returns_refused, returns_union}
 use Rattle.exploration.proofs.UnionBytes.{Written, written_is, union_is, total_is}
-use Rattle.exploration.proofs.Members.{members_count}
 use Rattle.exploration.proofs.OfBook.{written_member, whole}
 use Rattle.writing.specs.Uncounted.{uncounted_bytes, four_words}
-use Rattle.admit.specs.declared.Extent.{Extent}
+use Rattle.admit.specs.WorkingArray.{Stands}
 use Rattle.std.specs.Prelude.{Ok, Err}
 use Rattle.reading.specs.declared.Refused.{Refused}
 use Rattle.reading.specs.Told.{number_of}
@@ -37,28 +36,35 @@ module _ (book wide out : List ℕ) (roomy : output_size ≤ length out) (sound 
     pub outcome_same : outcome_of wide ≡ outcome_of book
     outcome_same = ap (λ (b : Book). run b.rules b.allowed b.question) same
 
-    pub returns_stopped : (X : List ℕ) (r : Refused) → RanIs (outcome_of wide) X (Err r)
+    pub returns_stopped : (t : State) (r : Refused) → RanIs (outcome_of wide) t (Err r)
         → Answers book out (number_of r.reason) r.place out
-    returns_stopped X r x =
+    returns_stopped t r x =
         subst (λ (n : ℕ). Answers book out n r.place out) (sym x.2)
         (returns_refused book out roomy sound (sym outcome_same ∙ x.1))
 
-    module _ (X : List ℕ) (f : Extent) (n : ℕ) (x : RanIs (outcome_of wide) X (Ok (f, n))) where
+    -- complete, its members U stand in the array X
+    module _ (t : State) (n : ℕ) (x : RanIs (outcome_of wide) t (Ok n)) {X : List ℕ} (st : Stands X t.members) where
       abbrev U : List Question
-      U = held_from X first_at f.count
+      U = t.members
 
       -- each member as it is written
       written : (M : Question) → M ∈ U → Written (atom_places book) (answers_of book) M
       written M m = written_member book sound ((whole book sound (sym outcome_same ∙ x.0)).good M m)
 
-      -- what `put_union` asks
-      pub have_answers : (answers : ℕ) → answers ≡ answers_of book → (M : Question) → M ∈ held_from X first_at f.count
-          → answers ≤ length M
-      have_answers answers is M m = omega (arith, is, (written M m).count)
+      held_are : (count : ℕ) → count ≡ length t.members → held_from X first_at count ≡ t.members
+      held_are count all = ap (held_from X first_at) all ∙ st.are
 
-      pub few_places : (w : ℕ) → w ≡ atom_places book → (M : Question) → M ∈ held_from X first_at f.count → (a : Atom)
-          → a ∈ M → length a.args ≤ w
-      few_places w is M m a k = omega (arith, is, ((written M m).fits.each a k).places)
+      in_union : (count : ℕ) → count ≡ length t.members → (M : Question) → M ∈ held_from X first_at count → M ∈ t.members
+      in_union count all M m = subst (λ (V : List Question). M ∈ V) (held_are count all) m
+
+      -- what `put_union` asks
+      pub have_answers : (answers : ℕ) → answers ≡ answers_of book → (count : ℕ) → count ≡ length t.members → (M : Question)
+          → M ∈ held_from X first_at count → answers ≤ length M
+      have_answers answers is count all M m = omega (arith, is, (written M (in_union count all M m)).count)
+
+      pub few_places : (w : ℕ) → w ≡ atom_places book → (count : ℕ) → count ≡ length t.members → (M : Question)
+          → M ∈ held_from X first_at count → (a : Atom) → a ∈ M → length a.args ≤ w
+      few_places w is count all M m a k = omega (arith, is, ((written M (in_union count all M m)).fits.each a k).places)
 
       -- what is written is what is held, the answer records not counted
       uncounted_is : (S : List Question) → ((M : Question) → M ∈ S → Written (atom_places book) (answers_of book) M)
@@ -71,32 +77,34 @@ module _ (book wide out : List ℕ) (roomy : output_size ≤ length out) (sound 
           (ap (λ (c : ℕ). c ∷ gather (atom_bytes (holding (atom_places book))) M) count ∙ sym (written_is w))
           (uncounted_is S (λ N y. h N (Memᴰ.tail y)))
 
-      pub returns_complete : (answers w : ℕ) → answers ≡ answers_of book → w ≡ atom_places book → (end : ℕ) (after : List ℕ)
-          → Puts (four_words f.count n end ++ uncounted_bytes w answers (held_from X first_at f.count)) out 0 end after
+      pub returns_complete : (answers w count : ℕ) → answers ≡ answers_of book → w ≡ atom_places book → count ≡ length t.members
+          → (end : ℕ) (after : List ℕ)
+          → Puts (four_words count n end ++ uncounted_bytes w answers (held_from X first_at count)) out 0 end after
           → Answers book out 0 end after
-      returns_complete answers w is wide_is end after p =
+      returns_complete answers w count is wide_is all end after p =
           subst (λ (e : ℕ). Answers book out 0 e after) (sym ends)
           (subst (λ (a : List ℕ). Answers book out 0 (total (atom_places book) U) a) (sym bytes)
           (returns_union book out roomy sound (sym outcome_same ∙ x.0)))
         where
-          members : uncounted_bytes w answers U ≡ members_bytes (atom_places book) U
-          members = ap₂ (λ (v a : ℕ). uncounted_bytes v a U) wide_is is ∙ uncounted_is U written
+          members : uncounted_bytes w answers (held_from X first_at count) ≡ members_bytes (atom_places book) U
+          members =
+              ap (uncounted_bytes w answers) (held_are count all)
+              ∙ ap₂ (λ (v a : ℕ). uncounted_bytes v a U) wide_is is
+              ∙ uncounted_is U written
 
           ends : end ≡ total (atom_places book) U
           ends =
               p.ends
               ∙ omega (
                 arith,
-                length-append (four_words f.count n end) (uncounted_bytes w answers U),
+                length-append (four_words count n end) (uncounted_bytes w answers (held_from X first_at count)),
                 ap length members,
                 total_is (atom_places book) U,
               )
 
-          union : four_words f.count n end ++ uncounted_bytes w answers U ≡ union_bytes (atom_places book) U n
+          union : four_words count n end ++ uncounted_bytes w answers (held_from X first_at count) ≡ union_bytes (atom_places book) U n
           union =
-              ap₂ (λ (h m : List ℕ). h ++ m)
-              (ap₂ (λ (c e : ℕ). four_words c n e) (sym (members_count X first_at f.count)) ends)
-              members
+              ap₂ (λ (h m : List ℕ). h ++ m) (ap₂ (λ (c e : ℕ). four_words c n e) all ends) members
               ∙ sym (union_is (atom_places book) U n)
 
           bytes : after ≡ union_bytes (atom_places book) U n ++ drop (total (atom_places book) U) out

@@ -19,11 +19,9 @@ use Rattle.unification.specs.Choice.{count}
 use Rattle.unification.proofs.Following.{listed_below}
 use Rattle.lister.specs.Listing.{QuestionIn}
 use Rattle.lister.proofs.FromBook.{member_in}
-use Rattle.admit.specs.declared.Extent.{Extent}
 use Rattle.admit.specs.declared.Fate.{Fate}
 use Rattle.admit.specs.WorkingArray.{FateIs}
-use Rattle.admit.specs.Sets.{BesideAfter}
-use Rattle.exploration.specs.Run.{apart, all_rewritings, limits_for}
+use Rattle.exploration.specs.Run.{State, apart, all_rewritings, limits_for}
 use Rattle.exploration.specs.Refusals.{answers_of, limits_of}
 use Rattle.explore.specs.declared.Taken.{Taken}
 use Rattle.explore.specs.Exploring.{MemberIn}
@@ -42,12 +40,12 @@ module _ {B R : List ℕ} (s : SoundBook B) (m : MemberIn B R) where
   member_record = subst (SoundRecord stored) (sym m.holds) (member_sound B s _ m.fits)
 
   -- the rewriting taken
-  module _ {W X : List ℕ} {e f : Extent} {k n : ℕ} {t : Taken} {out : List ℕ}
-      (o : Onward (limits_of B) (book_of B).rules (question_of stored R) W e X f k n)
+  module _ {b u : State} {k n : ℕ} {t : Taken} {out : List ℕ}
+      (o : Onward (limits_of B) (book_of B).rules (question_of stored R) b u k n)
       (g : Given (question_of stored R) k n (book_of B).rules t out)
     where
       listed : g.rewriting ∈ all_rewritings (book_of B).rules (question_of stored R)
-      listed = rewriting_in _ _ _ _ _ o g
+      listed = rewriting_in _ _ _ _ o g
 
       -- its record is sound, and its question is the rewriting
       pub taken_sound : SoundRecord stored out
@@ -61,12 +59,12 @@ module _ {B R : List ℕ} (s : SoundBook B) (m : MemberIn B R) where
       taken_covers b h = ap (λ (Q : Question). covers Q (question_of stored R)) (sym question) ∙ sym h
 
       -- what became of it
-      pub taken_fate : {a : ℕ} → a ≡ answers_of B → (Y : List ℕ) (r v : Result Fate Reason) → r ≡ v
-          → FateIs (limits_for a) X f (question_of stored out) Y r → FateIs (limits_of B) X f g.rewriting Y v
-      taken_fate is Y r v e h =
-          subst (λ (P : Question). FateIs (limits_of B) X f P Y v) question
-          (subst (λ (a : ℕ). FateIs (limits_for a) X f (question_of stored out) Y v) is
-          (subst (FateIs _ X f (question_of stored out) Y) e h))
+      pub taken_fate : {a : ℕ} → a ≡ answers_of B → (v : State) (r q : Result Fate Reason) → r ≡ q
+          → FateIs (limits_for a) u (question_of stored out) v r → FateIs (limits_of B) u g.rewriting v q
+      taken_fate is v r q e h =
+          subst (λ (P : Question). FateIs (limits_of B) u P v q) question
+          (subst (λ (a : ℕ). FateIs (limits_for a) u (question_of stored out) v q) is
+          (subst (FateIs _ u (question_of stored out) v) e h))
 
       -- its rule, and its choice
       here : (t.rule < rules_of B) × (g.here ≡ rule_at B (rule_start B t.rule))
@@ -86,7 +84,3 @@ module _ {B R : List ℕ} (s : SoundBook B) (m : MemberIn B R) where
           → GoesOn (rule_at B (rule_start B t.rule)) (question_of stored R) U t.choice n
           → GoesOn g.here (question_of stored R) U t.choice n
       taken_passed {U} {n} p = subst (λ (r : Rule). GoesOn r (question_of stored R) U t.choice n) (sym here.1) p
-
--- the sets beside the array then
-pub sets_after : (S Y : List ℕ) (f : Extent) (r v : Result Fate Reason) → r ≡ v → BesideAfter S Y f r → BesideAfter S Y f v
-sets_after S Y f r v e h = subst (BesideAfter S Y f) e h

@@ -5,9 +5,7 @@ ghost use Rattle.reading.specs.Header.{rules as rules_of, form_of, new};
 ghost use Rattle.reading.specs.Book.{book_of};
 ghost use Rattle.reading.specs.Verdict.{SoundBook};
 ghost use Rattle.book.specs.Parts.{StartsAt};
-ghost use Rattle.admit.specs.WorkingArray.{Working};
-ghost use Rattle.admit.specs.Sets.{Beside};
-ghost use Rattle.explore.specs.Exploring.{MemberIn, ExploredIs, SetsLeft};
+ghost use Rattle.explore.specs.Exploring.{MemberIn, ExploredIs};
 ghost use Rattle.explore.specs.Related.{HeadSets};
 ghost use Rattle.exploration.specs.Refusals.{answers_of, limits_of};
 
@@ -15,7 +13,7 @@ use super::related::RULES;
 use super::skipping::after_drop;
 use super::taking_up::next_rewriting;
 use super::{Head, Patience};
-use admit::{Extent, Fate, ROOM, admit};
+use admit::{Fate, Members};
 use covering::RECORD;
 use reading::Reason;
 
@@ -27,31 +25,24 @@ pub fn explore(
     starts: &[usize],
     heads: &[Head; RULES],
     member: &[u8; RECORD],
-    work: &mut [u8],
-    sets: &mut [u64; ROOM],
-    filled: Extent,
+    members: &mut Members,
     answers: u8,
-) -> Result<Extent, Reason>
+) -> Result<(), Reason>
     requires { SoundBook book.now
         × (rules ≡ rules_of book.now)
         × StartsAt book.now starts.now
         × MemberIn book.now member.now
-        × Working work.old filled
         × (answers ≡ answers_of book.now)
         × (form_of book.now ≡ new)
-        × HeadSets book.now heads.now
-        × Beside sets.old work.old filled.count }
+        × HeadSets book.now heads.now }
     ensures { ExploredIs
         (limits_of book.now)
         (book_of book.now).rules
         (question_of stored member.now)
-        work.old
-        filled
-        work.new
-        result
-        × SetsLeft sets.new work.new result }
+        members.old
+        members.new
+        result }
 {
-    let mut held = filled;
     let mut rule = 0;
     let mut from = 0;
     let mut room = [255u8; RECORD];
@@ -59,19 +50,17 @@ pub fn explore(
     loop {
         let found = next_rewriting(book, rules, starts, heads, member, rule, from, &mut room);
         let Some(taken) = found else {
-            return Ok(held);
+            return Ok(());
         };
         rule = taken.rule;
         from = taken.choice + 1;
-        match admit(work, sets, held, &room, answers)? {
+        match members.admit(&room, answers)? {
             Fate::Dropped => {
                 let resumed = after_drop(
                     book,
                     starts,
                     member,
-                    work,
-                    sets,
-                    held.count,
+                    members,
                     rule,
                     taken.choice,
                     patience,
@@ -79,11 +68,10 @@ pub fn explore(
                 from = resumed.from;
                 patience = resumed.patience;
             }
-            Fate::Appended(next) => {
+            Fate::Appended => {
                 if cover::covers_sound(&room, member) {
-                    return Ok(next);
+                    return Ok(());
                 }
-                held = next;
             }
         }
     }

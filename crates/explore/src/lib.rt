@@ -8,10 +8,8 @@ mod skipping;
 mod taking_up;
 mod whole_run;
 
+pub use admit::OUTPUT;
 pub use whole_run::{answer_records, run};
-
-// "Output room becomes 4,104 for all": 8 and 64 times the record of eight atoms and an answer record, six places each.
-pub const OUTPUT: usize = 4104;
 
 // The relations of a rule's head, a set, and whether the rule has existential variables.
 #[derive(Clone, Copy)]

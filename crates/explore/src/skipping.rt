@@ -10,13 +10,10 @@ ghost use Rattle.book.specs.Parts.{StartsAt};
 ghost use Rattle.unification.specs.Choice.{count};
 ghost use Rattle.lister.specs.Listing.{RuleIn, QuestionIn};
 ghost use Rattle.unify.specs.InBytes.{rule_of};
-ghost use Rattle.exploration.specs.Union.{first_at};
-ghost use Rattle.exploration.specs.Held.{held_from, Standing};
-ghost use Rattle.admit.specs.Sets.{Beside};
 ghost use Rattle.explore.specs.Skipping.{PrefixCovered, GoesOn};
 
 use super::{Patience, Resumed};
-use admit::{ROOM, is_covered};
+use admit::Members;
 use book::rule_at;
 use lister::{Rule, after_prefix, prefix_rewriting};
 
@@ -25,27 +22,22 @@ const FEW: usize = 8;
 
 const MANY: usize = 65536;
 
-// Whether one of the members in the array covers what the first p digits of the choice settle.
+// Whether one of the members covers what the first p digits of the choice settle.
 fn prefix_covered(
     rule: &Rule<'_>,
     member: &[u8],
-    work: &[u8],
-    sets: &[u64; ROOM],
-    members: usize,
+    members: &Members,
     choice: usize,
     p: usize,
 ) -> bool
     requires { QuestionIn member.now
         × RuleIn rule.now.book.now rule.now.parts
-        × (members ≤ 64)
-        × Standing work.now first_at members
         × (p < get_or member.now 0 0)
-        × (choice < count rule.now.parts.heads (get_or member.now 0 0))
-        × Beside sets.now work.now members }
+        × (choice < count rule.now.parts.heads (get_or member.now 0 0)) }
     ensures { PrefixCovered
         (rule_of rule.now.book.now rule.now.parts)
         (question_of stored member.now)
-        (held_from work.now first_at members)
+        members.now.members
         choice
         p
         result }
@@ -54,7 +46,7 @@ fn prefix_covered(
     let Some(question) = settled else {
         return false;
     };
-    is_covered(work, sets, members, &question)
+    members.covers(&question)
 }
 
 // How many digits the shortest prefix has that is asked, for n atoms: the table of choice counts ends at eight to come.
@@ -69,31 +61,21 @@ fn shortest(n: usize) -> usize
 
 // The number to go on from after the choice: after all that have its shortest covered prefix, or the next one. A prefix
 // covers what a longer one does, so the longest is asked first, and where it is not covered nothing else is asked.
-fn after_covered(
-    rule: &Rule<'_>,
-    member: &[u8],
-    work: &[u8],
-    sets: &[u64; ROOM],
-    members: usize,
-    choice: usize,
-) -> usize
+fn after_covered(rule: &Rule<'_>, member: &[u8], members: &Members, choice: usize) -> usize
     requires { QuestionIn member.now
         × RuleIn rule.now.book.now rule.now.parts
-        × (members ≤ 64)
-        × Standing work.now first_at members
-        × (choice < count rule.now.parts.heads (get_or member.now 0 0))
-        × Beside sets.now work.now members }
+        × (choice < count rule.now.parts.heads (get_or member.now 0 0)) }
     ensures { GoesOn
         (rule_of rule.now.book.now rule.now.parts)
         (question_of stored member.now)
-        (held_from work.now first_at members)
+        members.now.members
         choice
         result }
 {
     let n = usize::from(member[0]);
     let mut from = choice + 1;
     for p in (shortest(n)..n).rev() {
-        if !prefix_covered(rule, member, work, sets, members, choice, p) {
+        if !prefix_covered(rule, member, members, choice, p) {
             return from;
         }
         from = after_prefix(member, rule.parts.heads, choice, p);
@@ -142,9 +124,7 @@ pub fn after_drop(
     book: &[u8],
     starts: &[usize],
     member: &[u8],
-    work: &[u8],
-    sets: &[u64; ROOM],
-    members: usize,
+    members: &Members,
     rule: usize,
     choice: usize,
     patience: Patience,
@@ -153,16 +133,13 @@ pub fn after_drop(
         × (form_of book.now ≡ new)
         × StartsAt book.now starts.now
         × QuestionIn member.now
-        × (members ≤ 64)
-        × Standing work.now first_at members
         × (rule < rules_of book.now)
         × (choice
-        < count (length (rule_at book.now (rule_start book.now rule)).head) (get_or member.now 0 0))
-        × Beside sets.now work.now members }
+        < count (length (rule_at book.now (rule_start book.now rule)).head) (get_or member.now 0 0)) }
     ensures { GoesOn
         (rule_at book.now (rule_start book.now rule))
         (question_of stored member.now)
-        (held_from work.now first_at members)
+        members.now.members
         choice
         result.from }
 {
@@ -178,7 +155,7 @@ pub fn after_drop(
         };
     }
     let parts = rule_at(book, starts[rule]);
-    let from = after_covered(&Rule { book, parts }, member, work, sets, members, choice);
+    let from = after_covered(&Rule { book, parts }, member, members, choice);
     Resumed {
         from: from,
         patience: now.asked(choice + 1 < from),

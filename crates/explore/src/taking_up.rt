@@ -1,5 +1,5 @@
 // Taking up the oldest unexplored member, and taking its next rewriting.
-ghost use Rattle.std.specs.Prelude.{◌≡◌, ◌<◌, drop, IfSome};
+ghost use Rattle.std.specs.Prelude.{◌≡◌, ◌<◌, drop, IfSome, length};
 ghost use Rattle.covering.specs.Record.{stored, question_of, SoundRecord};
 ghost use Rattle.reading.specs.Book.{book_of};
 ghost use Rattle.reading.specs.Header.{rules as rules_of, form_of, new};
@@ -7,23 +7,23 @@ ghost use Rattle.reading.specs.Verdict.{SoundBook};
 ghost use Rattle.book.specs.Parts.{StartsAt};
 ghost use Rattle.lister.specs.Listing.{QuestionIn};
 ghost use Rattle.lister.specs.Counts.{most_choices};
-ghost use Rattle.admit.specs.WorkingArray.{Working};
 ghost use Rattle.explore.specs.Exploring.{OldestIs};
 ghost use Rattle.explore.specs.Related.{HeadSets};
 ghost use Rattle.explore.specs.Taking.{next_among, TakenIs};
 
 use super::related::{RULES, next_by};
 use super::{Head, Taken};
-use admit::{Extent, FIRST};
+use admit::{FIRST, Members};
 use covering::RECORD;
 
 // The oldest unexplored member.
-pub fn oldest(work: &[u8], filled: Extent) -> [u8; RECORD]
-    requires { Working work.now filled × (filled.front < filled.count) }
-    ensures { OldestIs work.now filled result }
+pub fn oldest(members: &Members) -> [u8; RECORD]
+    requires { members.now.explored < length members.now.members }
+    ensures { OldestIs members.now result }
 {
+    let work = members.bytes();
     let mut at = FIRST;
-    for _passed in 0..filled.front {
+    for _ in 0..members.explored() {
         at += records::width(work[at]);
     }
     records::copy_record(&work[at..])

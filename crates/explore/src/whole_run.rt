@@ -1,24 +1,23 @@
 // The run: one book in, the whole union or a numbered refusal out.
-ghost use Rattle.std.specs.Prelude.{◌≡◌, ◌≤◌, length, get_or};
+ghost use Rattle.std.specs.Prelude.{◌≡◌, ◌≤◌, length};
 ghost use Rattle.covering.specs.Form.{form};
-ghost use Rattle.covering.specs.Record.{stored, question_of, SoundRecord};
+ghost use Rattle.covering.specs.Record.{stored};
 ghost use Rattle.covering.specs.Buffer.{held_in, record_room};
 ghost use Rattle.covering.specs.Asking.{joined};
-ghost use Rattle.records.specs.Relations.{relations_of};
 ghost use Rattle.reading.specs.Header.{form_of, new};
 ghost use Rattle.reading.specs.Book.{book_of};
 ghost use Rattle.reading.specs.Told.{number_told, place_told};
 ghost use Rattle.reading.specs.Verdict.{SoundBook};
+ghost use Rattle.exploration.specs.Run.{start};
 ghost use Rattle.exploration.specs.Union.{output_size};
 ghost use Rattle.exploration.specs.Answer.{outcome_of, Answers};
 ghost use Rattle.exploration.specs.Refusals.{answers_of};
 ghost use Rattle.explore.specs.Exploring.{RanIs};
 
-use super::OUTPUT;
 use super::exploring::explore;
 use super::related::head_sets;
 use super::taking_up::oldest;
-use admit::{Extent, FIRST, ROOM, append};
+use admit::{Members, OUTPUT};
 use covering::RECORD;
 use forms::{BOOK, to_new};
 use reading::{Reason, Refused};
@@ -35,16 +34,6 @@ fn first_member(book: &[u8]) -> [u8; RECORD]
     first
 }
 
-// The sets of relations beside a working array with that member alone.
-fn sets_of_one(member: &[u8; RECORD]) -> [u64; ROOM]
-    requires { SoundRecord stored member.now }
-    ensures { (length result ≡ 64) × (get_or result 0 0 ≡ relations_of (question_of stored member.now)) }
-{
-    let mut sets = [0u64; ROOM];
-    sets[0] = records::relations(member);
-    sets
-}
-
 // How many answer records the book's question has, and so each member.
 pub fn answer_records(book: &[u8]) -> u8
     requires { SoundBook book.now }
@@ -53,11 +42,13 @@ pub fn answer_records(book: &[u8]) -> u8
     book::answers(book::read(book)) as u8
 }
 
-// Takes up the oldest unexplored member and explores it, until none is unexplored or the run is refused. Inside, atoms
-// have six places: the book is in the new form. Answers how far the array is filled, and how many were explored.
-fn explore_all(book: &[u8], work: &mut [u8]) -> Result<(Extent, usize), Refused>
-    requires { SoundBook book.now × (length work.old ≡ output_size) × (form_of book.now ≡ new) }
-    ensures { RanIs (outcome_of book.now) work.new result }
+// Takes up the oldest unexplored member and explores it, until none is unexplored or the run is refused; answers how many
+// were explored. Inside, atoms have six places: the book is in the new form.
+fn explore_all(book: &[u8], members: &mut Members) -> Result<usize, Refused>
+    requires { SoundBook book.now
+        × (form_of book.now ≡ new)
+        × (members.old ≡ start (joined (book_of book.now).question)) }
+    ensures { RanIs (outcome_of book.now) members.new result }
 {
     let header = book::read(book);
     let rules = header.rules;
@@ -65,41 +56,29 @@ fn explore_all(book: &[u8], work: &mut [u8]) -> Result<(Extent, usize), Refused>
     let answers = answer_records(book);
     let starts = book::starts(book);
     let heads = head_sets(book, rules, &starts);
-    let first = first_member(book);
-    let len = append(work, FIRST, &first);
-    let mut sets = sets_of_one(&first);
-    let mut filled = Extent {
-        len: len,
-        count: 1,
-        front: 0,
-    };
     let mut taken = 0;
-    while filled.front < filled.count {
+    while members.explored() < members.count() {
         if taken == allowed {
             return Err(Refused {
                 reason: Reason::NoneLeft,
                 place: taken,
             });
         }
-        let member = oldest(work, filled);
+        let member = oldest(members);
         taken += 1;
-        filled.front += 1;
-        match explore(
-            book, rules, &starts, &heads, &member, work, &mut sets, filled, answers,
-        ) {
-            Ok(next) => filled = next,
-            Err(reason) => {
-                return Err(Refused {
-                    reason,
-                    place: taken,
-                });
-            }
+        members.take_up();
+        let explored = explore(book, rules, &starts, &heads, &member, members, answers);
+        if let Err(reason) = explored {
+            return Err(Refused {
+                reason,
+                place: taken,
+            });
         }
     }
-    Ok((filled, taken))
+    Ok(taken)
 }
 
-// Builds a sound book's union in a working array of its own, from the book as it is in the new form, and writes it with
+// Builds a sound book's union in an array of its own, from the book as it is in the new form, and writes it with
 // as many places an atom as the book has. The output is written on completion alone; its length is the answer.
 fn run_sound(book: &[u8], wide: &[u8], out: &mut [u8]) -> Result<usize, Refused>
     requires { SoundBook book.now
@@ -114,11 +93,18 @@ fn run_sound(book: &[u8], wide: &[u8], out: &mut [u8]) -> Result<usize, Refused>
         (place_told result)
         out.new }
 {
-    let mut work = [0u8; OUTPUT];
-    let (filled, explored) = explore_all(wide, &mut work)?;
+    let mut members = Members::of(&first_member(wide));
+    let explored = explore_all(wide, &mut members)?;
     let places = book::read(book).places;
     let answers = answer_records(book);
-    let end = put_union(&work, filled.count, explored, answers, out, places);
+    let end = put_union(
+        members.bytes(),
+        members.count(),
+        explored,
+        answers,
+        out,
+        places,
+    );
     Ok(end)
 }
 

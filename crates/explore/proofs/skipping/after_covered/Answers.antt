@@ -17,7 +17,7 @@ bounds-member-0 c = omega (arith, c.requires.0.atoms.fits)
 
 pub overflow_add-from : goal.overflow_add-from
 overflow_add-from c =
-    omega (arith, c.requires.4, count_few c.args.rule.now.parts.heads (get_or c.args.member.now 0 0) c.requires.1.few_head c.requires.0.few)
+    omega (arith, c.requires.2, count_few c.args.rule.now.parts.heads (get_or c.args.member.now 0 0) c.requires.1.few_head c.requires.0.few)
 
 pub loop-p-init : goal.loop-p-init
 loop-p-init c = goes_next _ _ _ _
@@ -26,11 +26,8 @@ pub prefix_covered-requires : goal.prefix_covered-requires
 prefix_covered-requires c = (
   c.requires.0,
   c.requires.1,
-  c.requires.2,
-  c.requires.3,
   omega (arith, c.from-n.ensures),
-  c.requires.4,
-  c.requires.5,
+  c.requires.2,
 )
 
 pub returns-then-not-prefix_covered : goal.returns-then-not-prefix_covered
@@ -45,7 +42,7 @@ after_prefix-from-requires c =
       c.requires.1.few_head,
       omega (arith, c.from-n.ensures),
       omega (arith, c.from-n.ensures, c.shortest-p-start.ensures),
-      omega (arith, few, c.requires.4),
+      omega (arith, few, c.requires.2),
     )
 
 pub loop-p-preserved : goal.loop-p-preserved

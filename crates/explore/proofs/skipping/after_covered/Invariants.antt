@@ -2,11 +2,9 @@
 -- the number to go on from is covered.
 use Rattle.covering.specs.Record.{stored, question_of}
 use Rattle.unify.specs.InBytes.{rule_of}
-use Rattle.exploration.specs.Union.{first_at}
-use Rattle.exploration.specs.Held.{held_from}
 use Rattle.explore.specs.Skipping.{GoesOn}
 use Rattle.explore.proofs.skipping.after_covered.Given as goal
 
 abbrev pub invariant-loop-p : goal.invariant-loop-p
 invariant-loop-p l =
-    GoesOn (rule_of l.rule.book.now l.rule.parts) (question_of stored l.member) (held_from l.work first_at l.members) l.choice l.from
+    GoesOn (rule_of l.rule.book.now l.rule.parts) (question_of stored l.member) l.members.members l.choice l.from

@@ -17,8 +17,6 @@ use Rattle.unify.specs.InBytes.{rule_of}
 use Rattle.lister.specs.Listing.{QuestionIn, RuleIn}
 use Rattle.lister.proofs.Answers.{heads_are}
 use Rattle.lister.proofs.Asked.{count_few}
-use Rattle.exploration.specs.Union.{first_at}
-use Rattle.exploration.specs.Held.{held_from}
 use Rattle.explore.specs.Skipping.{GoesOn}
 use Rattle.explore.proofs.Among.{rules_few, start_fits, start_inside, parts_in, rule_is}
 use Rattle.explore.proofs.PassedOver.{goes_next}
@@ -48,25 +46,25 @@ module _ (B starts Q : List ℕ) (s : SoundBook B) (f : form_of B ≡ new) (a : 
 pub overflow_add-result : goal.overflow_add-result
 overflow_add-result c =
     let p = c.requires in
-    omega (arith, small _ _ _ p.0 p.1 p.2 p.3 _ _ p.6 p.7)
+    omega (arith, small _ _ _ p.0 p.1 p.2 p.3 _ _ p.4 p.5)
 
 pub returns-then-now-gt0 : goal.returns-then-now-gt0
 returns-then-now-gt0 c = goes_next _ _ _ _
 
 pub offset_bounds-starts-rule : goal.offset_bounds-starts-rule
-offset_bounds-starts-rule c = omega (arith, c.requires.6, rules_few c.args.book.now c.requires.0)
+offset_bounds-starts-rule c = omega (arith, c.requires.4, rules_few c.args.book.now c.requires.0)
 
 pub bounds-starts-rule : goal.bounds-starts-rule
-bounds-starts-rule c = start_inside c.args.book.now c.requires.0 c.args.starts.now c.requires.2 _ c.requires.6
+bounds-starts-rule c = start_inside c.args.book.now c.requires.0 c.args.starts.now c.requires.2 _ c.requires.4
 
 pub rule_at-parts-requires : goal.rule_at-parts-requires
 rule_at-parts-requires c =
-    (start_fits c.args.book.now c.requires.0 c.args.starts.now c.requires.2 _ c.requires.6, c.requires.1)
+    (start_fits c.args.book.now c.requires.0 c.args.starts.now c.requires.2 _ c.requires.4, c.requires.1)
 
 pub invariant_of-after_covered : goal.invariant_of-after_covered
 invariant_of-after_covered c =
     let p = c.requires in
-    let r = in_book_lem _ _ _ p.0 p.1 p.2 p.3 _ _ p.6 p.7 _ c.rule_at-parts.ensures in
+    let r = in_book_lem _ _ _ p.0 p.1 p.2 p.3 _ _ p.4 p.5 _ c.rule_at-parts.ensures in
     record { body_inside = r.body.fits; head_inside = r.head.fits }
 
 pub after_covered-from-requires : goal.after_covered-from-requires
@@ -74,23 +72,20 @@ after_covered-from-requires c =
     let p = c.requires in
     let e = c.rule_at-parts.ensures in (
       p.3,
-      in_book_lem _ _ _ p.0 p.1 p.2 p.3 _ _ p.6 p.7 _ e,
-      p.4,
-      p.5,
-      own_choice _ _ _ p.0 p.1 p.2 p.3 _ _ p.6 p.7 _ e,
-      p.8,
+      in_book_lem _ _ _ p.0 p.1 p.2 p.3 _ _ p.4 p.5 _ e,
+      own_choice _ _ _ p.0 p.1 p.2 p.3 _ _ p.4 p.5 _ e,
     )
 
 pub overflow_add-choice : goal.overflow_add-choice
 overflow_add-choice c =
     let p = c.requires in
-    omega (arith, small _ _ _ p.0 p.1 p.2 p.3 _ _ p.6 p.7)
+    omega (arith, small _ _ _ p.0 p.1 p.2 p.3 _ _ p.4 p.5)
 
 pub returns : goal.returns
 returns c =
     let p = c.requires in
     subst
     (λ (rule : Rule).
-    GoesOn rule (question_of stored c.args.member.now) (held_from c.args.work.now first_at c.args.members)
+    GoesOn rule (question_of stored c.args.member.now) c.args.members.now.members
     c.args.choice c.after_covered-from.result)
-    (own_rule _ _ _ p.0 p.1 p.2 p.3 _ _ p.6 p.7 _ c.rule_at-parts.ensures) c.after_covered-from.ensures
+    (own_rule _ _ _ p.0 p.1 p.2 p.3 _ _ p.4 p.5 _ c.rule_at-parts.ensures) c.after_covered-from.ensures

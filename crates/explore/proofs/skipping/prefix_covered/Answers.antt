@@ -3,12 +3,11 @@
 use Rattle.explore.proofs.PassedOver.{unmet_covered, met_covered, settled_sound}
 use Rattle.explore.proofs.skipping.prefix_covered.Goals as goal
 
-pub is_covered-requires : goal.is_covered-requires
-is_covered-requires c =
-    (c.requires.2, c.requires.3, settled_sound c.prefix_rewriting-settled.ensures c.in-Some.is, c.requires.6)
+pub covers-requires : goal.covers-requires
+covers-requires c = settled_sound c.prefix_rewriting-settled.ensures c.in-Some.is
 
 pub returns-in_default : goal.returns-in_default
 returns-in_default c = unmet_covered c.prefix_rewriting-settled.ensures _ c.in_default.is
 
 pub returns : goal.returns
-returns c = met_covered c.prefix_rewriting-settled.ensures c.in-Some.is _ _ c.is_covered.ensures
+returns c = met_covered c.prefix_rewriting-settled.ensures c.in-Some.is _ _ c.covers.ensures

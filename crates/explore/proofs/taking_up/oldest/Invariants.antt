@@ -1,6 +1,7 @@
--- `explore::taking_up::oldest` meets its contract. The loop's invariant: the members from the i-th on stand from `at` on.
+-- `explore::taking_up::oldest`: so many members are passed, and the others stand from `at` on.
+use lib.ListN.{length}
 use Rattle.explore.proofs.Among.{From}
 use Rattle.explore.proofs.taking_up.oldest.Given as goal
 
-abbrev pub invariant-loop-passed : goal.invariant-loop-passed
-invariant-loop-passed l = From l.work l.fn.filled.count l.at l._passed
+abbrev pub invariant-loop : goal.invariant-loop
+invariant-loop l = From l.work (length l.members.members) l.at l.counter

@@ -1,6 +1,0 @@
--- `explore::whole_run::sets_of_one` meets its contract: the first set is stored.
-use mathlib.Core.Path.{refl}
-use Rattle.explore.proofs.whole_run.sets_of_one.Goals as goal
-
-pub returns : goal.returns
-returns c = (refl, c.relations.ensures)
