@@ -37,8 +37,8 @@ pub fn to_new(book: &[u8], out: &mut [u8]) -> Result<usize, Refused>
     Ok(put_book(book, out, Form::New))
 }
 
-// The book in the old form, and its length: refused 1 where there is too little room, then as the book itself is, then 13
-// where it has none.
+// The book in the old form, and its length: refused 1 where there is too little room, then as the book itself is, then
+// 13 where it has none.
 pub fn to_old(book: &[u8], out: &mut [u8]) -> Result<usize, Refused>
     ensures { CopiesOld
         book.now

@@ -1,4 +1,4 @@
-// A book whose header was read and is right, and what is wrong after the header, a method for each thing that is judged.
+// A book whose header was read and is right, and what is wrong after the header: a method for each thing judged.
 ghost use Rattle.std.specs.Prelude.{◌≡◌, ◌+◌, ◌*◌, ◌<◌, ◌≤◌, length};
 ghost use Rattle.std.proofs.Math.Option.{none};
 ghost use Rattle.reading.specs.Header.{atom_size};

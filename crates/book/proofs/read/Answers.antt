@@ -6,19 +6,13 @@ use Prim.Native.Nat.{ℕ, ◌≤◌}
 use lib.ListN.{length}
 use Rattle.reading.specs.declared.Header.{Header}
 use Rattle.reading.specs.Header.{relations, constants, rules, atoms, allowed, relations_at, rules_at, question_at}
-use Rattle.reading.specs.Header.{header_of, total_word}
+use Rattle.reading.specs.Header.{header_of, header_size, total_word}
 use Rattle.reading.proofs.Forms.{form_known}
-use Rattle.book.proofs.read.Lts as lts
-use Rattle.book.proofs.read.Reads as reads
-use Rattle.book.proofs.read.Tie as tie
 use Rattle.book.proofs.read.Goals as goal
 
-abbrev Start : Type 0
-Start = lts.Start tie.the-claims reads.Pre reads.Post
-
 -- nine of them are there in either form
-long : (c : Start) → 18 ≤ length c.args.book.now
-long c = omega (arith, c.requires, (form_known c.args.book.now).some_header)
+long : (B : List ℕ) → header_size B ≤ length B → 18 ≤ length B
+long B l = omega (arith, (form_known B).some_header)
 
 -- the header of the words that were read
 header_is : (B : List ℕ) {p c r n l t s q w a : ℕ} → p ≡ relations B → c ≡ constants B → r ≡ rules B → n ≡ atoms B
@@ -52,31 +46,31 @@ header_is B p c r n l t s q w a =
     }
 
 pub word-table-requires : goal.word-table-requires
-word-table-requires c = omega (arith, long c.before.before)
+word-table-requires c = omega (arith, long _ c.requires)
 
 pub word-requires : goal.word-requires
-word-requires c = omega (arith, long c.before.before.before)
+word-requires c = omega (arith, long _ c.requires)
 
 pub word-requires-2 : goal.word-requires-2
-word-requires-2 c = omega (arith, long c.before.before.before.before)
+word-requires-2 c = omega (arith, long _ c.requires)
 
 pub word-requires-3 : goal.word-requires-3
-word-requires-3 c = omega (arith, long c.before.before.before.before.before)
+word-requires-3 c = omega (arith, long _ c.requires)
 
 pub word-requires-4 : goal.word-requires-4
-word-requires-4 c = omega (arith, long c.before.before.before.before.before.before)
+word-requires-4 c = omega (arith, long _ c.requires)
 
 pub word-requires-5 : goal.word-requires-5
-word-requires-5 c = omega (arith, long c.before.before.before.before.before.before.before)
+word-requires-5 c = omega (arith, long _ c.requires)
 
 pub word-requires-6 : goal.word-requires-6
-word-requires-6 c = omega (arith, long c.before.before.before.before.before.before.before.before)
+word-requires-6 c = omega (arith, long _ c.requires)
 
 pub word-requires-7 : goal.word-requires-7
-word-requires-7 c = omega (arith, long c.before.before.before.before.before.before.before.before.before)
+word-requires-7 c = omega (arith, long _ c.requires)
 
 pub word-requires-8 : goal.word-requires-8
-word-requires-8 c = omega (arith, long c.before.before.before.before.before.before.before.before.before.before)
+word-requires-8 c = omega (arith, long _ c.requires)
 
 pub places-requires : goal.places-requires
 places-requires c = (c.word-table.ensures.0, c.requires)

@@ -21,7 +21,8 @@ module _ {B : List ℕ} {h : Header} (r : HeaderRight B h) (e s n k : ℕ) (l : 
       counted : x + y ≡ body_count B s + head_count B s
       counted = omega arith
 
-      atoms : told 7 (wrong_in_atoms B (s + 2) (x + y)) ≡ told 7 (wrong_in_atoms B (s + 2) (body_count B s + head_count B s))
+      atoms : told 7 (wrong_in_atoms B (s + 2) (x + y))
+          ≡ told 7 (wrong_in_atoms B (s + 2) (body_count B s + head_count B s))
       atoms = ap (λ (m : ℕ). told 7 (wrong_in_atoms B (s + 2) m)) counted
 
       -- where it ends, as the code finds it
@@ -32,26 +33,42 @@ module _ {B : List ℕ} {h : Header} (r : HeaderRight B h) (e s n k : ℕ) (l : 
       next is = omega (arith, ends, ap (λ (w : ℕ). (1 + w) * (x + y)) (known r).places_are)
 
 pub bounds-book-s : goal.bounds-book-s
-bounds-book-s c = let a = c.args in omega (arith, (rule a.self.right a.end c.loop-k.s a.n c.loop-k.k c.loop-k-test.true c.loop-k.invariant.0).ends)
+bounds-book-s c =
+    let a = c.args in
+    let r = rule a.self.right a.end c.loop-k.s a.n c.loop-k.k c.loop-k-test.true c.loop-k.invariant.0 in
+    omega (arith, r.ends)
 
 pub overflow_add-s : goal.overflow_add-s
-overflow_add-s c = let a = c.args in omega (arith, (rule a.self.right a.end c.loop-k.s a.n c.loop-k.k c.loop-k-test.true c.loop-k.invariant.0).ends)
+overflow_add-s c =
+    let a = c.args in
+    let r = rule a.self.right a.end c.loop-k.s a.n c.loop-k.k c.loop-k-test.true c.loop-k.invariant.0 in
+    omega (arith, r.ends)
 
 pub bounds-book-s-in-loop-k : goal.bounds-book-s-in-loop-k
-bounds-book-s-in-loop-k c = let a = c.args in omega (arith, (rule a.self.right a.end c.loop-k.s a.n c.loop-k.k c.loop-k-test.true c.loop-k.invariant.0).ends)
+bounds-book-s-in-loop-k c =
+    let a = c.args in
+    let r = rule a.self.right a.end c.loop-k.s a.n c.loop-k.k c.loop-k-test.true c.loop-k.invariant.0 in
+    omega (arith, r.ends)
 
 pub overflow_add-s-in-loop-k : goal.overflow_add-s-in-loop-k
-overflow_add-s-in-loop-k c = let a = c.args in omega (arith, (rule a.self.right a.end c.loop-k.s a.n c.loop-k.k c.loop-k-test.true c.loop-k.invariant.0).ends)
+overflow_add-s-in-loop-k c =
+    let a = c.args in
+    let r = rule a.self.right a.end c.loop-k.s a.n c.loop-k.k c.loop-k-test.true c.loop-k.invariant.0 in
+    omega (arith, r.ends)
 
 pub wrong_in_atoms-requires : goal.wrong_in_atoms-requires
 wrong_in_atoms-requires c =
     let a = c.args in
-    omega (arith, (rule a.self.right a.end c.loop-k.s a.n c.loop-k.k c.loop-k-test.true c.loop-k.invariant.0).ends, ends a.self.right a.end c.loop-k.s a.n c.loop-k.k c.loop-k-test.true c.loop-k.invariant.0 c.from.ensures c.from-in-loop-k.ensures)
+    let r = rule a.self.right a.end c.loop-k.s a.n c.loop-k.k c.loop-k-test.true c.loop-k.invariant.0 in
+    let e = ends a.self.right a.end c.loop-k.s a.n c.loop-k.k c.loop-k-test.true c.loop-k.invariant.0
+    c.from.ensures c.from-in-loop-k.ensures in
+    omega (arith, r.ends, e)
 
 pub returns-in_err-wrong_in_atoms : goal.returns-in_err-wrong_in_atoms
 returns-in_err-wrong_in_atoms c =
     let a = c.args in
-    let d = atoms a.self.right a.end c.loop-k.s a.n c.loop-k.k c.loop-k-test.true c.loop-k.invariant.0 c.from.ensures c.from-in-loop-k.ensures in
+    let d = atoms a.self.right a.end c.loop-k.s a.n c.loop-k.k c.loop-k-test.true c.loop-k.invariant.0
+    c.from.ensures c.from-in-loop-k.ensures in
     handed _ _ c.from_residual.ensures.1 (stops_else 7 _ _ _ (c.in_err-wrong_in_atoms.ensures ∙ d))
     ∙ ap (told 7) (sym (c.loop-k.invariant.1 ∙ bytes_more _ _ _ _ c.loop-k-test.true))
 
@@ -61,15 +78,21 @@ atoms_size-requires c = (few_places c.args.self.right, omega arith)
 pub overflow_add-s-in-loop-k-3 : goal.overflow_add-s-in-loop-k-3
 overflow_add-s-in-loop-k-3 c =
     let a = c.args in
-    omega (arith, (rule a.self.right a.end c.loop-k.s a.n c.loop-k.k c.loop-k-test.true c.loop-k.invariant.0).ends, next a.self.right a.end c.loop-k.s a.n c.loop-k.k c.loop-k-test.true c.loop-k.invariant.0 c.from.ensures c.from-in-loop-k.ensures c.atoms_size.ensures.0)
+    let r = rule a.self.right a.end c.loop-k.s a.n c.loop-k.k c.loop-k-test.true c.loop-k.invariant.0 in
+    let e = next a.self.right a.end c.loop-k.s a.n c.loop-k.k c.loop-k-test.true c.loop-k.invariant.0
+    c.from.ensures c.from-in-loop-k.ensures c.atoms_size.ensures.0 in
+    omega (arith, r.ends, e)
 
 pub loop-k-preserved : goal.loop-k-preserved
 loop-k-preserved c =
     let a = c.args in
     let B = a.self.book.now in
-    let d = atoms a.self.right a.end c.loop-k.s a.n c.loop-k.k c.loop-k-test.true c.loop-k.invariant.0 c.from.ensures c.from-in-loop-k.ensures in
-    let on = next a.self.right a.end c.loop-k.s a.n c.loop-k.k c.loop-k-test.true c.loop-k.invariant.0 c.from.ensures c.from-in-loop-k.ensures c.atoms_size.ensures.0 in (
-      ap (λ (s : ℕ). wrong_rule B a.end s (a.n - (c.loop-k.k + 1))) on ∙ (rule a.self.right a.end c.loop-k.s a.n c.loop-k.k c.loop-k-test.true c.loop-k.invariant.0).rest,
+    let d = atoms a.self.right a.end c.loop-k.s a.n c.loop-k.k c.loop-k-test.true c.loop-k.invariant.0
+    c.from.ensures c.from-in-loop-k.ensures in
+    let r = rule a.self.right a.end c.loop-k.s a.n c.loop-k.k c.loop-k-test.true c.loop-k.invariant.0 in
+    let on = next a.self.right a.end c.loop-k.s a.n c.loop-k.k c.loop-k-test.true c.loop-k.invariant.0
+    c.from.ensures c.from-in-loop-k.ensures c.atoms_size.ensures.0 in (
+      ap (λ (s : ℕ). wrong_rule B a.end s (a.n - (c.loop-k.k + 1))) on ∙ r.rest,
       c.loop-k.invariant.1
           ∙ bytes_more _ _ _ _ c.loop-k-test.true
           ∙ passes_else 7 _ _ (omega arith) (c.in_ok-wrong_in_atoms.ensures ∙ d)
