@@ -68,7 +68,15 @@ fn build(
     table: &[u8; 96],
     out: &mut [u8; RECORD],
 ) -> Option<usize>
-    requires { Builds asked.now.question.now asked.now.rule.book.now asked.now.rule.parts passed more number sent table.now }
+    requires { Builds
+        asked.now.question.now
+        asked.now.rule.book.now
+        asked.now.rule.parts
+        passed
+        more
+        number
+        sent
+        table.now }
     ensures { FoundIs
         (first
         (table_builder 48 (rule_of asked.now.rule.book.now asked.now.rule.parts) asked.now.from)
@@ -113,7 +121,15 @@ fn try_digit(
     each: usize,
     out: &mut [u8; RECORD],
 ) -> Option<usize>
-    requires builds { Builds asked.now.question.now asked.now.rule.book.now asked.now.rule.parts passed more number sent table.now }
+    requires builds { Builds
+        asked.now.question.now
+        asked.now.rule.book.now
+        asked.now.rule.parts
+        passed
+        more
+        number
+        sent
+        table.now }
     requires more_nonzero { (0 < more)
         × (d ≤ asked.now.rule.parts.heads)
         × (each ≡ count asked.now.rule.parts.heads (more - 1)) }

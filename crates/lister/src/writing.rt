@@ -42,7 +42,10 @@ fn put_all(kept: &mut [u8; RECORD], table: &[u8; 96], from: &[u8], i: usize, n: 
 
 // The left atoms and the rule's body, each class replaced by what stands for it.
 pub fn replaced(left: &[u8; RECORD], rule: &Rule<'_>, table: &[u8; 96]) -> [u8; RECORD]
-    requires { LeftIn left.now × (get_or left.now 0 0 ≤ 8) × RuleIn rule.now.book.now rule.now.parts × ClassesFit table.now }
+    requires { LeftIn left.now
+        × (get_or left.now 0 0 ≤ 8)
+        × RuleIn rule.now.book.now rule.now.parts
+        × ClassesFit table.now }
     ensures { Written
         (rewriting_of
         (tabled (classes_of table.now))
@@ -61,7 +64,10 @@ pub fn replaced(left: &[u8; RECORD], rule: &Rule<'_>, table: &[u8; 96]) -> [u8; 
 
 // Writes the rewriting of the left atoms and the rule's body by the classes to the room lent.
 pub fn put_rewriting(left: &[u8; RECORD], rule: &Rule<'_>, table: &[u8; 96], out: &mut [u8; RECORD])
-    requires { LeftIn left.now × (get_or left.now 0 0 ≤ 8) × RuleIn rule.now.book.now rule.now.parts × ClassesFit table.now }
+    requires { LeftIn left.now
+        × (get_or left.now 0 0 ≤ 8)
+        × RuleIn rule.now.book.now rule.now.parts
+        × ClassesFit table.now }
     ensures { out.new
         ≡ held_in stored record_room
         (form
