@@ -4,6 +4,7 @@
 
 mod exploring;
 mod related;
+mod rules;
 mod skipping;
 mod taking_up;
 mod whole_run;

@@ -3,15 +3,14 @@
 // no matter of the run, which is the same.
 ghost use Rattle.std.specs.Prelude.{◌≡◌, ◌+◌, ◌≤◌, ◌<◌, length, get_or};
 ghost use Rattle.covering.specs.Record.{stored, question_of};
-ghost use Rattle.reading.specs.Header.{rules as rules_of, form_of, new};
+ghost use Rattle.reading.specs.Header.{rules as rules_of};
 ghost use Rattle.reading.specs.Book.{rule_at, rule_start};
-ghost use Rattle.reading.specs.Verdict.{SoundBook};
-ghost use Rattle.book.specs.Parts.{StartsAt};
 ghost use Rattle.unification.specs.Choice.{count};
 ghost use Rattle.lister.specs.Listing.{RuleIn, QuestionIn};
 ghost use Rattle.unify.specs.InBytes.{rule_of};
 ghost use Rattle.explore.specs.Skipping.{PrefixCovered, GoesOn};
 
+use super::rules::Rules;
 use super::{Patience, Resumed};
 use admit::Members;
 use book::rule_at;
@@ -121,28 +120,25 @@ impl Patience {
 
 // Where to go on after a rewriting of the member by that rule was dropped.
 pub fn after_drop(
-    book: &[u8],
-    starts: &[usize],
+    rules: &Rules<'_>,
     member: &[u8],
     members: &Members,
     rule: usize,
     choice: usize,
     patience: Patience,
 ) -> Resumed
-    requires { SoundBook book.now
-        × (form_of book.now ≡ new)
-        × StartsAt book.now starts.now
-        × QuestionIn member.now
-        × (rule < rules_of book.now)
+    requires { QuestionIn member.now
+        × (rule < rules_of rules.now)
         × (choice
-        < count (length (rule_at book.now (rule_start book.now rule)).head) (get_or member.now 0 0)) }
+        < count (length (rule_at rules.now (rule_start rules.now rule)).head) (get_or member.now 0 0)) }
     ensures { GoesOn
-        (rule_at book.now (rule_start book.now rule))
+        (rule_at rules.now (rule_start rules.now rule))
         (question_of stored member.now)
         members.now.members
         choice
         result.from }
 {
+    let book = rules.book;
     let mut now = patience;
     if now.rule != rule {
         now = Patience::fresh(rule);
@@ -154,7 +150,7 @@ pub fn after_drop(
             patience: now,
         };
     }
-    let parts = rule_at(book, starts[rule]);
+    let parts = rule_at(book, rules.starts[rule]);
     let from = after_covered(&Rule { book, parts }, member, members, choice);
     Resumed {
         from: from,

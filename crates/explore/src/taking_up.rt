@@ -2,17 +2,14 @@
 ghost use Rattle.std.specs.Prelude.{◌≡◌, ◌<◌, drop, IfSome, length};
 ghost use Rattle.covering.specs.Record.{stored, question_of, SoundRecord};
 ghost use Rattle.reading.specs.Book.{book_of};
-ghost use Rattle.reading.specs.Header.{rules as rules_of, form_of, new};
-ghost use Rattle.reading.specs.Verdict.{SoundBook};
-ghost use Rattle.book.specs.Parts.{StartsAt};
 ghost use Rattle.lister.specs.Listing.{QuestionIn};
 ghost use Rattle.lister.specs.Counts.{most_choices};
 ghost use Rattle.explore.specs.Exploring.{OldestIs};
-ghost use Rattle.explore.specs.Related.{HeadSets};
 ghost use Rattle.explore.specs.Taking.{next_among, TakenIs};
 
-use super::related::{RULES, next_by};
-use super::{Head, Taken};
+use super::Taken;
+use super::related::next_by;
+use super::rules::Rules;
 use admit::{FIRST, Members};
 use covering::RECORD;
 
@@ -30,30 +27,21 @@ pub fn oldest(members: &Members) -> [u8; RECORD]
 }
 
 // The first rewriting of the member from choice `from` of the k-th rule on: "rules in book order, choices in theirs". It
-// goes to the room lent, which stays as it came if there is none. `heads` has what `head_sets` made.
+// goes to the room lent, which stays as it came if there is none.
 pub fn next_rewriting(
-    book: &[u8],
-    rules: usize,
-    starts: &[usize],
-    heads: &[Head; RULES],
+    rules: &Rules<'_>,
     member: &[u8; RECORD],
     k: usize,
     from: usize,
     out: &mut [u8; RECORD],
 ) -> Option<Taken>
-    requires { SoundBook book.now
-        × (rules ≡ rules_of book.now)
-        × StartsAt book.now starts.now
-        × QuestionIn member.now
-        × (form_of book.now ≡ new)
-        × HeadSets book.now heads.now
-        × SoundRecord stored member.now }
+    requires { QuestionIn member.now × SoundRecord stored member.now }
     ensures { TakenIs
         (next_among
         (question_of stored member.now)
         k
         from
-        (drop k (book_of book.now).rules))
+        (drop k (book_of rules.now).rules))
         out.old
         result
         out.new
@@ -61,8 +49,16 @@ pub fn next_rewriting(
 {
     let all = records::relations(member);
     let mut first = from;
-    for rule in k..rules {
-        let found = next_by(book, starts[rule], heads[rule], member, all, first, out);
+    for rule in k..rules.count {
+        let found = next_by(
+            rules.book,
+            rules.starts[rule],
+            rules.heads[rule],
+            member,
+            all,
+            first,
+            out,
+        );
         if let Some(choice) = found {
             return Some(Taken { rule, choice });
         }

@@ -15,7 +15,7 @@ ghost use Rattle.exploration.specs.Refusals.{answers_of};
 ghost use Rattle.explore.specs.Exploring.{RanIs};
 
 use super::exploring::explore;
-use super::related::head_sets;
+use super::rules::Rules;
 use super::taking_up::oldest;
 use admit::{Members, OUTPUT};
 use covering::RECORD;
@@ -50,12 +50,8 @@ fn explore_all(book: &[u8], members: &mut Members) -> Result<usize, Refused>
         × (members.old ≡ start (joined (book_of book.now).question)) }
     ensures { RanIs (outcome_of book.now) members.new result }
 {
-    let header = book::read(book);
-    let rules = header.rules;
-    let allowed = header.allowed;
-    let answers = answer_records(book);
-    let starts = book::starts(book);
-    let heads = head_sets(book, rules, &starts);
+    let allowed = book::read(book).allowed;
+    let rules = Rules::read(book);
     let mut taken = 0;
     while members.explored() < members.count() {
         if taken == allowed {
@@ -67,7 +63,7 @@ fn explore_all(book: &[u8], members: &mut Members) -> Result<usize, Refused>
         let member = oldest(members);
         taken += 1;
         members.take_up();
-        let explored = explore(book, rules, &starts, &heads, &member, members, answers);
+        let explored = explore(&rules, &member, members);
         if let Err(reason) = explored {
             return Err(Refused {
                 reason,

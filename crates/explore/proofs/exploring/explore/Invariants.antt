@@ -10,7 +10,7 @@ use Rattle.explore.proofs.exploring.explore.Given as goal
 
 abbrev pub invariant-loop-taken : goal.invariant-loop-taken
 invariant-loop-taken l =
-    Onward (limits_of l.book) (book_of l.book).rules (question_of stored l.member) l.initial.members l.members l.rule l.from
+    Onward (limits_of l.rules) (book_of l.rules).rules (question_of stored l.member) l.initial.members l.members l.rule l.from
 
 abbrev pub decreases-loop-taken : goal.decreases-loop-taken
-decreases-loop-taken l = length (coming (question_of stored l.member) l.from (drop l.rule (book_of l.book).rules))
+decreases-loop-taken l = length (coming (question_of stored l.member) l.from (drop l.rule (book_of l.rules).rules))

@@ -4,8 +4,8 @@ use Prim.Native.Nat.{◌-◌}
 use Rattle.explore.proofs.Running.{Running}
 use Rattle.explore.proofs.whole_run.explore_all.Given as goal
 
-abbrev pub invariant-loop-starts : goal.invariant-loop-starts
-invariant-loop-starts l = Running l.book l.members l.taken
+abbrev pub invariant-loop-rules : goal.invariant-loop-rules
+invariant-loop-rules l = Running l.book l.members l.taken
 
-abbrev pub decreases-loop-starts : goal.decreases-loop-starts
-decreases-loop-starts l = l.allowed - l.taken
+abbrev pub decreases-loop-rules : goal.decreases-loop-rules
+decreases-loop-rules l = l.allowed - l.taken
