@@ -15,33 +15,10 @@ use super::FIRST;
 use cover::VARIABLES;
 use covering::RECORD;
 
-// Whether the member covers the rewriting; the map by which it does is left in the room lent. One candidate for the
-// member's first atom is asked at a time, so that the search ends at the first that serves.
-fn covers_by(member: &[u8], rewriting: &[u8; RECORD], map: &mut [u8; VARIABLES]) -> bool
-    requires { SoundRecord stored member.now
-        × SoundRecord stored rewriting.now
-        × (map.old ≡ replicate stored.variables 255) }
-    ensures { Searched
-        (first_map (question_of stored member.now) (question_of stored rewriting.now))
-        map.old
-        map.new
-        result }
-{
-    // A member without atoms covers whatever comes.
-    if member[0] == 0 {
-        return true;
-    }
-    for k in 0..usize::from(rewriting[0]) {
-        if cover::covers_on(member, rewriting, map, k) {
-            return true;
-        }
-    }
-    false
-}
-
-// The number of the first member that covers the rewriting. There are as many members as sets. The map by which it
-// covers is handed up beside the number. Of a member with a relation that is not one of those `there`, the rewriting's,
-// none is asked.
+// The number of the first member that covers the rewriting. There are as many members as sets. One candidate for the
+// member's first atom is asked at a time, so that the search ends at the first that serves, and the map that it found is
+// handed up beside the number. Of a member with a relation that is not one of those `there`, the rewriting's, none is
+// asked. The form is 01's: nested loops over members and atoms, left by a label, the member's number by break.
 pub fn member_covering(
     work: &[u8],
     sets: &[u64],
@@ -63,11 +40,24 @@ pub fn member_covering(
         (covered_by (question_of stored rewriting.now) (held_from work.now first_at (length sets.now)))) }
 {
     let mut at = FIRST;
-    for (i, set) in sets.iter().enumerate() {
-        if records::is_part(*set, there) && covers_by(&work[at..], rewriting, map) {
-            return Some(i);
+    let mut i = 0;
+    'members: loop {
+        if sets.len() <= i {
+            break 'members None;
+        }
+        if records::is_part(sets[i], there) {
+            let member = &work[at..];
+            // A member without atoms covers whatever comes.
+            if member[0] == 0 {
+                break 'members Some(i);
+            }
+            for k in 0..usize::from(rewriting[0]) {
+                if cover::covers_on(member, rewriting, map, k) {
+                    break 'members Some(i);
+                }
+            }
         }
         at += records::width(work[at]);
+        i += 1;
     }
-    None
 }
