@@ -2,17 +2,12 @@
 -- itself, as a caller learns it: `Learnt` at the lifetimes, the arguments, the result and the exit. Assumes nothing.
 use mathlib.Core.Path.{◌≡◌, sym, ◌∙◌}
 use Rattle.forming.proofs.formed.in_form.Reads as in-form-reads
-use Rattle.forming.proofs.formed.no_atoms.Reads as no-atoms-reads
 use Rattle.forming.proofs.formed.put_atom.Reads as put-atom-reads
 use Rattle.forming.proofs.formed.put_on.Reads as put-on-reads
 
 pub in_form_determined : (κs : _) (a : _) (r s : _) (x y : _) → in-form-reads.Learnt κs a r x
-    → in-form-reads.Learnt κs a s y → x.1.0.now ≡ y.1.0.now
+    → in-form-reads.Learnt κs a s y → r ≡ s
 in_form_determined κs a r s x y p q = p ∙ sym q
-
-pub no_atoms_determined : (κs : _) (a : _) (r s : _) (x y : _) → no-atoms-reads.Learnt κs a r x
-    → no-atoms-reads.Learnt κs a s y → r ≡ s
-no_atoms_determined κs a r s x y p q = p ∙ sym q
 
 pub put_atom_determined : (κs : _) (a : _) (r s : _) (x y : _) → put-atom-reads.Learnt κs a r x
     → put-atom-reads.Learnt κs a s y → x.0.now ≡ y.0.now

@@ -4,7 +4,9 @@ use mathlib.Core.Path.{◌≡◌, refl, sym, ◌∙◌, ap, subst}
 use mathlib.Core.Bool.{Bool, true, false, cond, not, ◌&&◌, ◌||◌}
 use mathlib.Core.Logic.{◌⊎◌, inl, inr}
 use mathlib.Core.List.{List, [], ◌∷◌, ◌++◌, append_assoc, append-nil}
-use Prim.Native.Nat.{ℕ}
+use Prim.Native.Nat.{ℕ, ◌+◌, ◌≤◌}
+use native.Mathlib.Omega.{arith}
+use lib.ListN.{length, length-append}
 use lib.Dec.{T, eqb, eqb→eq}
 use Rattle.covering.specs.Lists.{◌∈◌, keep}
 use Rattle.covering.specs.Term.{Term, var, con, Atom, Question, eq_atom}
@@ -41,6 +43,13 @@ module _ {A : Type 0} (eq : A → A → Bool) where
   pub added_new : (K : List A) (a : A) → has eq K a ≡ false → added eq K a ≡ K ++ a ∷ []
   unfolding added
   added_new K a e = rw e
+
+  pub added_length : (K : List A) (a : A) → length (added eq K a) ≤ length K + 1
+  added_length K a = go (either (has eq K a))
+    where
+      go : (has eq K a ≡ true) ⊎ (has eq K a ≡ false) → length (added eq K a) ≤ length K + 1
+      go (inl t) = rw (added_old K a t) (omega arith)
+      go (inr t) = rw (added_new K a t) (omega (arith, length-append K (a ∷ [])))
 
   -- equal elements dropped but for the first
   abbrev sifted : List A → List A

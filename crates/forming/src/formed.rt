@@ -8,15 +8,7 @@ ghost use Rattle.covering.specs.Buffer.{held_in, AtomIn, AtomsIn, RoomLeft, reco
 ghost use Rattle.forming.specs.Building.{has, added, seen, all_seen, new_number, sub_of, NumberTable};
 
 use covering::RECORD;
-
-// A record with no atom yet.
-pub fn no_atoms() -> [u8; RECORD]
-    ensures { result ≡ held_in stored record_room [] }
-{
-    let mut kept = [255u8; RECORD];
-    kept[0] = 0;
-    kept
-}
+use records::{Held, Record};
 
 // Whether the atom of first at i is the atom of second at k: the same seven bytes.
 fn same_atom(first: &[u8], second: &[u8], i: usize, k: usize) -> bool
@@ -41,7 +33,15 @@ fn has_atom(kept: &[u8], i: usize, n: usize, from: &[u8], at: usize) -> bool
 }
 
 // Puts the atom of from at `at` after the record's own atoms. From may be any bytes that have an atom there.
-pub fn put_atom(kept: &mut [u8], from: &[u8], at: usize)
+pub fn put_atom(kept: &mut Held, from: &[u8], at: usize)
+    requires { (length kept.old < 12) × AtomIn stored from.now at }
+    ensures { kept.new ≡ kept.old ++ atom_at stored from.now at ∷ [] }
+{
+    put_bytes(&mut kept.bytes, from, at);
+}
+
+// The same in bytes.
+fn put_bytes(kept: &mut [u8; RECORD], from: &[u8], at: usize)
     requires { RoomLeft stored record_room kept.old × AtomIn stored from.now at }
     ensures { kept.new
         ≡ held_in
@@ -56,43 +56,36 @@ pub fn put_atom(kept: &mut [u8], from: &[u8], at: usize)
 }
 
 // The same where the atom is not among the record's own; else the record stays as it is.
-fn put_new(kept: &mut [u8], from: &[u8], at: usize)
-    requires { RoomLeft stored record_room kept.old × AtomIn stored from.now at }
-    ensures { kept.new
-        ≡ held_in
-        stored
-        record_room
-        (added eq_atom (question_of stored kept.old) (atom_at stored from.now at)) }
+fn put_new(kept: &mut Held, from: &[u8], at: usize)
+    requires { (length kept.old < 12) × AtomIn stored from.now at }
+    ensures { kept.new ≡ added eq_atom kept.old (atom_at stored from.now at) }
 {
-    let n = usize::from(kept[0]);
-    if !has_atom(kept, 1, n, from, at) {
+    let n = usize::from(kept.bytes[0]);
+    if !has_atom(&kept.bytes, 1, n, from, at) {
         put_atom(kept, from, at);
     }
 }
 
 // The record with equal atoms dropped but for the first.
-fn drop_equal(member: &[u8]) -> [u8; RECORD]
-    requires { SoundRecord stored member.now }
-    ensures { result ≡ held_in stored record_room (dedup (question_of stored member.now)) }
+fn drop_equal(member: &Record<'_>) -> Held
+    ensures { result ≡ dedup member.now }
 {
-    let mut kept = no_atoms();
-    let n = usize::from(member[0]);
+    let mut kept = Held::empty();
+    let n = usize::from(member.bytes[0]);
     for k in 0..n {
-        put_new(&mut kept, member, 1 + k * 7);
+        put_new(&mut kept, member.bytes, 1 + k * 7);
     }
     kept
 }
 
 // Whether no two of the record's atoms are equal: then none is dropped, and nothing needs copying.
-fn all_differ(member: &[u8]) -> bool
-    requires { SoundRecord stored member.now }
-    ensures { result ≡ true
-        → dedup (question_of stored member.now) ≡ question_of stored member.now }
+fn all_differ(member: &Record<'_>) -> bool
+    ensures { result ≡ true → dedup member.now ≡ member.now }
 {
-    let n = usize::from(member[0]);
+    let n = usize::from(member.bytes[0]);
     for k in 0..n {
         let at = 1 + k * 7;
-        if has_atom(member, at + 7, n - (k + 1), member, at) {
+        if has_atom(member.bytes, at + 7, n - (k + 1), member.bytes, at) {
             return false;
         }
     }
@@ -145,18 +138,15 @@ impl Numbers {
 }
 
 // The new number of each variable of the record, by first appearance, and 255 for any other.
-fn numbers_of(member: &[u8]) -> [u8; 96]
-    requires { SoundRecord stored member.now }
-    ensures { (n : ℕ)
-        → n < 96
-        → get_or result n 0 ≡ new_number (firsts (terms (question_of stored member.now))) n }
+fn numbers_of(member: &Record<'_>) -> [u8; 96]
+    ensures { (n : ℕ) → n < 96 → get_or result n 0 ≡ new_number (firsts (terms member.now)) n }
 {
     let mut numbers = Numbers {
         table: [255; 96],
         given: 0,
     };
-    for k in 0..usize::from(member[0]) {
-        numbers.number_atom(member, 1 + k * 7);
+    for k in 0..usize::from(member.bytes[0]) {
+        numbers.number_atom(member.bytes, 1 + k * 7);
     }
     numbers.table
 }
@@ -187,43 +177,35 @@ fn atom_on(table: &[u8; 96], from: &[u8], at: usize) -> [u8; 7]
 }
 
 // Puts that atom, its variables so replaced, after the record's own.
-pub fn put_on(kept: &mut [u8], table: &[u8; 96], from: &[u8], at: usize)
-    requires { RoomLeft stored record_room kept.old
+pub fn put_on(kept: &mut Held, table: &[u8; 96], from: &[u8], at: usize)
+    requires { (length kept.old < 12)
         × AtomIn stored from.now at
         × AtomFits stored (on_atom (sub_of table.now) (atom_at stored from.now at)) }
-    ensures { kept.new
-        ≡ held_in
-        stored
-        record_room
-        (question_of stored kept.old
-        ++ on_atom (sub_of table.now) (atom_at stored from.now at) ∷ []) }
+    ensures { kept.new ≡ kept.old ++ on_atom (sub_of table.now) (atom_at stored from.now at) ∷ [] }
 {
     let atom = atom_on(table, from, at);
     put_atom(kept, &atom, 0);
 }
 
-// Writes the record with its variables numbered by first appearance to the room lent.
-fn put_renumbered(out: &mut [u8; RECORD], member: &[u8])
-    requires { SoundRecord stored member.now }
-    ensures { out.new
-        ≡ held_in stored record_room (renumber (question_of stored member.now)) }
+// The record with its variables numbered by first appearance.
+fn renumbered(member: &Record<'_>) -> Held
+    ensures { result ≡ renumber member.now }
 {
     let table = numbers_of(member);
-    *out = no_atoms();
-    for k in 0..usize::from(member[0]) {
-        put_on(out, &table, member, 1 + k * 7);
+    let mut out = Held::empty();
+    for k in 0..usize::from(member.bytes[0]) {
+        put_on(&mut out, &table, member.bytes, 1 + k * 7);
     }
+    out
 }
 
-// Writes the form of the record to the room lent: equal atoms dropped but for the first, then variables numbered.
-pub fn in_form(member: &[u8; RECORD], out: &mut [u8; RECORD])
-    requires { SoundRecord stored member.now }
-    ensures { out.new ≡ held_in stored record_room (form (question_of stored member.now)) }
+// The form of the record: equal atoms dropped but for the first, then variables numbered.
+pub fn in_form(member: &Record<'_>) -> Held
+    ensures { result ≡ form member.now }
 {
     if all_differ(member) {
-        put_renumbered(out, member);
-        return;
+        return renumbered(member);
     }
     let kept = drop_equal(member);
-    put_renumbered(out, &kept);
+    renumbered(&kept.lent())
 }

@@ -9,3 +9,4 @@ pub mod Desk
 pub mod Each
 pub mod Finding
 pub mod Holding
+pub mod Determined

@@ -14,12 +14,12 @@ use Rattle.forming.proofs.Passing.{question_left, differ_none, differ_next}
 use Rattle.forming.proofs.formed.all_differ.Goals as goal
 
 pub loop-k-init : goal.loop-k-init
-loop-k-init c = λ e. let q = question_left c.args.member.now in ap dedup q ∙ e ∙ sym q
+loop-k-init c = λ e. let q = sym c.member.view_is ∙ question_left c.member.inside.bytes.now in ap dedup q ∙ e ∙ sym q
 
 pub has_atom-requires : goal.has_atom-requires
 has_atom-requires c =
-    let m = c.args.member.now in
-    let all = sound_in stored m c.requires in
+    let m = c.member.inside.bytes.now in
+    let all = sound_in stored m c.member.invariant in
     let lt : c.loop-k.k < get_or m 0 0 = omega (arith, c.from-n.ensures) in
     let others = from_in stored m 1 _ (c.loop-k.k + 1) (omega arith) all in
     let next : 1 + (c.loop-k.k + 1) * 7 ≡ 1 + c.loop-k.k * 7 + 7 = omega arith in
@@ -28,7 +28,7 @@ has_atom-requires c =
 
 pub loop-k-preserved : goal.loop-k-preserved
 loop-k-preserved c =
-    let m = c.args.member.now in
+    let m = c.member.inside.bytes.now in
     let lt : c.loop-k.k < get_or m 0 0 = omega (arith, c.from-n.ensures) in
     let new = rw c.from-n.ensures at (sym c.has_atom.ensures ∙ c.if-has_atom.false) in
     λ e. c.loop-k.invariant (differ_next m 1 _ _ lt new e)

@@ -9,5 +9,5 @@ use Rattle.forming.proofs.formed.all_differ.Given as goal
 
 abbrev pub invariant-loop-k : goal.invariant-loop-k
 invariant-loop-k l =
-    dedup (left l.member 1 (get_or l.member 0 0) l.k) ≡ left l.member 1 (get_or l.member 0 0) l.k
-    → dedup (question_of stored l.member) ≡ question_of stored l.member
+    let B = l.member-inside.bytes.now in
+    dedup (left B 1 (get_or B 0 0) l.k) ≡ left B 1 (get_or B 0 0) l.k → dedup l.member ≡ l.member

@@ -17,19 +17,19 @@ use Rattle.forming.proofs.formed.numbers_of.Goals as goal
 
 pub loop-k-init : goal.loop-k-init
 loop-k-init c = (
-  omega (arith, c.requires.most),
-  ([], numbered_none, firsts_leftward _ ∙ ap (λ A. all_seen [] (terms A)) (question_left c.args.member.now)),
+  omega (arith, c.member.invariant.most),
+  ([], numbered_none, firsts_leftward _ ∙ ap (λ A. all_seen [] (terms A)) (sym c.member.view_is ∙ question_left c.member.inside.bytes.now)),
 )
 
 pub number_atom-requires : goal.number_atom-requires
 number_atom-requires c =
-    let m = c.args.member.now in
+    let m = c.member.inside.bytes.now in
     let lt : c.loop-k.k < get_or m 0 0 = omega (arith, c.from-k-end.ensures) in
-    (nth_in stored m 1 _ _ lt (sound_in stored m c.requires), omega (arith, c.loop-k.invariant.0))
+    (nth_in stored m 1 _ _ lt (sound_in stored m c.member.invariant), omega (arith, c.loop-k.invariant.0))
 
 pub loop-k-preserved : goal.loop-k-preserved
 loop-k-preserved c =
-    let m = c.args.member.now in
+    let m = c.member.inside.bytes.now in
     let n = c.number_atom in
     let s = c.loop-k.invariant.1 in
     let lt : c.loop-k.k < get_or m 0 0 = omega (arith, c.from-k-end.ensures) in

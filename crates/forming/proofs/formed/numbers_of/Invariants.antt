@@ -12,7 +12,9 @@ use Rattle.forming.proofs.Passing.{left}
 use Rattle.forming.proofs.formed.numbers_of.Given as goal
 
 abbrev pub invariant-loop-k : goal.invariant-loop-k
-invariant-loop-k l = (l.numbers.given + (get_or l.member 0 0 - l.k) * 6 ≤ 72)
+invariant-loop-k l =
+    let B = l.member-inside.bytes.now in
+    (l.numbers.given + (get_or B 0 0 - l.k) * 6 ≤ 72)
     × ((S : List ℕ)
     × NumberTable S l.numbers.table l.numbers.given
-    × (firsts (terms (question_of stored l.member)) ≡ all_seen S (terms (left l.member 1 (get_or l.member 0 0) l.k))))
+    × (firsts (terms l.member) ≡ all_seen S (terms (left B 1 (get_or B 0 0) l.k))))

@@ -1,8 +1,7 @@
 -- `forming::formed::put_on` meets its contract: the atom's bytes on the table are put after the record's own.
 use mathlib.Core.Path.{ap, ◌∙◌}
 use mathlib.Core.List.{[], ◌∷◌, ◌++◌}
-use Rattle.covering.specs.Record.{stored, question_of}
-use Rattle.covering.specs.Buffer.{held_in, record_room}
+use Rattle.covering.specs.Record.{stored}
 use Rattle.covering.proofs.RoundTrip.{stored_apart}
 use Rattle.forming.proofs.AtomBytes.{bytes_in}
 use Rattle.forming.proofs.formed.put_on.Goals as goal
@@ -15,6 +14,4 @@ put_atom-requires c =
 pub returns : goal.returns
 returns c =
     c.put_atom.ensures
-    ∙ ap
-    (λ a. held_in stored record_room (question_of stored c.args.kept.now ++ a ∷ []))
-    (bytes_in stored stored_apart _ _ c.requires.2 c.atom_on-atom.ensures).1
+    ∙ ap (λ a. c.args.kept.now ++ a ∷ []) (bytes_in stored stored_apart _ _ c.requires.2 c.atom_on-atom.ensures).1
