@@ -4,3 +4,5 @@
 mod formed;
 
 pub use formed::{in_form, put_atom, put_on};
+// what they are lent and what they build
+pub use records::{Held, Record};

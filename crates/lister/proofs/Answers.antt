@@ -12,8 +12,7 @@ use Rattle.std.specs.Prelude.{None, IsSome, IsNone}
 use Rattle.std.specs.Prelude.{Option as Answer}
 use Rattle.covering.specs.Lists.{first_of, numbers}
 use Rattle.covering.specs.Term.{Atom, Question, on_atom}
-use Rattle.covering.specs.Record.{stored, atom_at, atoms_at, question_of}
-use Rattle.covering.specs.Buffer.{held_in, record_room}
+use Rattle.covering.specs.Record.{stored, atom_at, atoms_at}
 use Rattle.covering.proofs.Lengths.{count_atoms}
 use Rattle.book.specs.declared.Parts.{Parts}
 use Rattle.unification.specs.Choice.{count, atom_pairs, to_head}
@@ -26,7 +25,7 @@ use Rattle.lister.specs.Build.{first, first_by_digit, since, table_builder}
 use Rattle.lister.specs.Listing.{found_of, FoundIs, Asks}
 use Rattle.lister.proofs.Prefixes.{digits_none, digits_hit, digits_miss, head_pairs, digit_skips, prefix_digits}
 use Rattle.lister.proofs.Prefixes.{whole_sent, whole_unsent}
-use Rattle.lister.proofs.Asked.{Tries, meeting, left_holds}
+use Rattle.lister.proofs.Asked.{Tries, meeting}
 
 -- an answer to one thing that is sought is an answer to another that is the same
 pub told_same : {o o' : Option (ℕ × Question)} {X Y : List ℕ} {r : Answer ℕ} → o ≡ o' → FoundIs o X r Y → FoundIs o' X r Y
@@ -54,17 +53,17 @@ pub heads_are : (B : List ℕ) (p : Parts) → length (rule_of B p).head ≡ p.h
 unfolding rule_in
 heads_are B p = count_atoms stored B p.heads p.head
 
-module _ (Q B : List ℕ) (p : Parts) (from i more number : ℕ) (sent : Bool) (A table : List ℕ) where
+module _ (Q B : List ℕ) (p : Parts) (from i more number : ℕ) (sent : Bool) (A : Question) (table : List ℕ) where
   -- what `build` looks for: the first that the choices with this prefix give
   abbrev pub sought : Option (ℕ × Question)
   sought =
-      first (table_builder 48 (rule_of B p) from) number (question_of stored A) sent (atoms_at stored Q i more)
+      first (table_builder 48 (rule_of B p) from) number A sent (atoms_at stored Q i more)
       (classes_of table)
 
   -- what `try_digit` looks for: the same with the digit d for the next atom
   abbrev pub sought_by : ℕ → Option (ℕ × Question)
   sought_by =
-      first_by_digit (table_builder 48 (rule_of B p) from) number (question_of stored A) sent (atom_at stored Q i)
+      first_by_digit (table_builder 48 (rule_of B p) from) number A sent (atom_at stored Q i)
       (atoms_at stored Q (i + 7) (more - 1)) (classes_of table)
 
   -- the digits before d gave nothing, so it is the first that those from d on give
@@ -72,24 +71,24 @@ module _ (Q B : List ℕ) (p : Parts) (from i more number : ℕ) (sent : Bool) (
     pub rest : sought ≡ first_of sought_by (numbers d (suc p.heads - d))
 
 -- `build` at a whole choice
-module _ {Q B : List ℕ} {p : Parts} {i more number : ℕ} {sent : Bool} {A table : List ℕ}
+module _ {Q B : List ℕ} {p : Parts} {i more number : ℕ} {sent : Bool} {A : Question} {table : List ℕ}
     (k : Asks Q B p i more number sent A table) (from : ℕ) (none_left : more ≡ 0) where
   pub sought_whole : sent ≡ true
       → sought Q B p from i more number sent A table
-      ≡ since from number (judge (question_of stored A) (move 48 (rule_of B p)) (tabled (classes_of table)))
+      ≡ since from number (judge A (move 48 (rule_of B p)) (tabled (classes_of table)))
   sought_whole =
-      whole_sent 48 (rule_of B p) from number (question_of stored A) sent (classes_of table) stored Q i more none_left
+      whole_sent 48 (rule_of B p) from number A sent (classes_of table) stored Q i more none_left
 
   pub sought_unsent : sent ≡ false → sought Q B p from i more number sent A table ≡ none
   sought_unsent =
-      whole_unsent 48 (rule_of B p) from number (question_of stored A) sent (classes_of table) stored Q i more none_left
+      whole_unsent 48 (rule_of B p) from number A sent (classes_of table) stored Q i more none_left
 
 -- `build` with atoms left goes through the digits
-module _ {Q B : List ℕ} {p : Parts} {from i more number : ℕ} {sent : Bool} {A table : List ℕ} where
+module _ {Q B : List ℕ} {p : Parts} {from i more number : ℕ} {sent : Bool} {A : Question} {table : List ℕ} where
   pub reached_first : 0 < more → Reached Q B p from i more number sent A table 0
   reached_first h =
       record {
-        rest = prefix_digits 48 (rule_of B p) from number (question_of stored A) sent (classes_of table) stored Q i more h
+        rest = prefix_digits 48 (rule_of B p) from number A sent (classes_of table) stored Q i more h
             ∙ ap (λ n. first_of (sought_by Q B p from i more number sent A table) (numbers 0 n)) count_is;
       }
     where
@@ -133,7 +132,7 @@ pairs_are B p a (suc e) h le = (
 )
 
 -- `try_digit` with the digit d
-module _ {Q B : List ℕ} {p : Parts} {i more number : ℕ} {sent : Bool} {A table : List ℕ} {d : ℕ}
+module _ {Q B : List ℕ} {p : Parts} {i more number : ℕ} {sent : Bool} {A : Question} {table : List ℕ} {d : ℕ}
     (k : Tries Q B p i more number sent A table d) (from : ℕ) where
   abbrev by_d : Option (ℕ × Question)
   by_d = sought_by Q B p from i more number sent A table d
@@ -144,7 +143,7 @@ module _ {Q B : List ℕ} {p : Parts} {i more number : ℕ} {sent : Bool} {A tab
   -- all its choices come before the start
   pub skipped : (number * (p.heads + 1) + d + 1) * count p.heads (more - 1) ≤ from → by_d ≡ none
   skipped le =
-      digit_skips 48 (rule_of B p) from number (question_of stored A) sent (classes_of table) (atom_at stored Q i)
+      digit_skips 48 (rule_of B p) from number A sent (classes_of table) (atom_at stored Q i)
       (atoms_at stored Q (i + 7) (more - 1)) d (subst (λ x. x ≤ from) (sym same) le)
     where
       same : suc (number * suc (length (rule_of B p).head) + d)
@@ -155,9 +154,8 @@ module _ {Q B : List ℕ} {p : Parts} {i more number : ℕ} {sent : Bool} {A tab
           (ap (λ x. x * count p.heads (more - 1)) (omega arith))
 
   -- the atom is left
-  pub left_at : {R : List ℕ} → d ≡ 0 → R ≡ held_in stored record_room (question_of stored A ++ atom_at stored Q i ∷ [])
-      → sought Q B p from (i + 7) (more - 1) (number * (p.heads + 1) + d) sent R table ≡ by_d
-  left_at e q = rw (numbered, e, left_holds k q)
+  pub left_at : {R : Question} → d ≡ 0 → R ≡ A ++ atom_at stored Q i ∷ [] → sought Q B p from (i + 7) (more - 1) (number * (p.heads + 1) + d) sent R table ≡ by_d
+  left_at e q = rw (numbered, e, q) refl
 
   -- the head atom is of another relation
   pub apart_at : 0 < d → (get_or Q i 0 ≡ get_or B (p.head + (d - 1) * 7) 0 → ⊥) → by_d ≡ none

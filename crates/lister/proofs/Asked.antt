@@ -13,7 +13,7 @@ use lib.ListN.{length, length-map, get_or}
 use Rattle.covering.specs.Lists.{◌∈◌}
 use Rattle.covering.specs.Term.{Term, Atom, Question, on_term, on_atom, Below}
 use Rattle.covering.specs.Record.{stored, term_of, atom_at, atoms_at, question_of, is_atom, are_atoms, AtomFits, TermFits}
-use Rattle.covering.specs.Buffer.{held_in, RoomLeft, AtomIn, record_room}
+use Rattle.covering.specs.Buffer.{AtomIn}
 use Rattle.covering.proofs.Places.{question_at_lem}
 use Rattle.covering.proofs.Fitting.{atom_fits}
 use Rattle.covering.proofs.Terms.{terms_out}
@@ -34,7 +34,7 @@ use Rattle.lister.proofs.Entries.{unify_good, place_ends, places_alone, EntriesE
 use Rattle.unification.proofs.Prefix.{count_some}
 use Rattle.lister.proofs.Prefixes.{prefix_within}
 use Rattle.lister.proofs.RewritingBytes.{book_stored, book_apart, all_fit, rest_in, first_fits, first_atom_in}
-use Rattle.lister.proofs.LeftAtoms.{fits_stored, left_none, left_room, left_put}
+use Rattle.lister.proofs.LeftAtoms.{fits_stored, left_none, left_put, one_more}
 
 nth_fits : (B : List ℕ) (n e i : ℕ) → e < n → T (are_atoms in_book B i n)
     → AtomFits in_book (atom_at stored B (i + e * 7))
@@ -67,7 +67,7 @@ joined_fit a b table table' fa fb f e =
         (fits_stored a fa).terms moved_fit
 
 -- what `try_digit` is asked: there is a next atom, and its digit leaves it or sends it to a head atom
-abbrev pub Tries : List ℕ → List ℕ → Parts → ℕ → ℕ → ℕ → Bool → List ℕ → List ℕ → ℕ → Type 0
+abbrev pub Tries : List ℕ → List ℕ → Parts → ℕ → ℕ → ℕ → Bool → Question → List ℕ → ℕ → Type 0
 Tries Q B p i more number sent A table d = Asks Q B p i more number sent A table × (0 < more) × (d ≤ p.heads)
 
 -- the classes with that atom put on the head atom of its digit
@@ -75,7 +75,7 @@ abbrev pub meeting : List ℕ → List ℕ → Parts → ℕ → List ℕ → �
 meeting Q B p i table d =
     unify_table (atom_pairs (atom_at stored Q i) (on_atom (up 48) (atom_at stored B (p.head + (d - 1) * 7)))) (classes_of table)
 
-module _ {Q B : List ℕ} {p : Parts} {i more number : ℕ} {sent : Bool} {A table : List ℕ} {d : ℕ}
+module _ {Q B : List ℕ} {p : Parts} {i more number : ℕ} {sent : Bool} {A : Question} {table : List ℕ} {d : ℕ}
     (k : Tries Q B p i more number sent A table d) where
   -- a prefix with one digit more
   pub child_small : suc (number * (p.heads + 1) + d) * count p.heads (more - 1) ≤ most_choices
@@ -96,31 +96,22 @@ module _ {Q B : List ℕ} {p : Parts} {i more number : ℕ} {sent : Bool} {A tab
       omega (arith, one, child_small)
 
   -- the atom is left: there is room for it
-  few_left : get_or A 0 0 ≤ 8
-  few_left = omega (arith, k.0.few, k.1)
+  pub room_left : (length A < 12) × AtomIn stored Q i
+  room_left = (omega (arith, k.0.few), first_atom_in Q i more k.0.atoms k.1)
 
-  pub room_left : RoomLeft stored record_room A × AtomIn stored Q i
-  room_left = (left_room A k.0.left few_left, first_atom_in Q i more k.0.atoms k.1)
-
-  module _ {R : List ℕ} (e : R ≡ held_in stored record_room (question_of stored A ++ atom_at stored Q i ∷ [])) where
-    put : LeftIn R × (question_of stored R ≡ question_of stored A ++ atom_at stored Q i ∷ []) × (get_or R 0 0 ≡ get_or A 0 0 + 1)
-    put = left_put A R (atom_at stored Q i) k.0.left few_left (first_fits Q i more k.0.atoms k.1) e
-
-    pub left_holds : question_of stored R ≡ question_of stored A ++ atom_at stored Q i ∷ []
-    left_holds = put.1
-
-    pub child_left : Asks Q B p (i + 7) (more - 1) (number * (p.heads + 1) + d) sent R table
-    child_left =
-        record {
-          atoms = rest_in Q i more k.0.atoms k.1;
-          rule = k.0.rule;
-          left = put.0;
-          few = omega (arith, k.0.few, k.1, put.2);
-          fewer = λ t. omega (arith, k.0.fewer t, k.1, put.2);
-          small = child_small;
-          size = k.0.size;
-          classes = k.0.classes;
-        }
+  pub child_left : Asks Q B p (i + 7) (more - 1) (number * (p.heads + 1) + d) sent (A ++ atom_at stored Q i ∷ []) table
+  child_left =
+      let count = one_more A (atom_at stored Q i) in
+      record {
+        atoms = rest_in Q i more k.0.atoms k.1;
+        rule = k.0.rule;
+        left = left_put A (atom_at stored Q i) k.0.left (first_fits Q i more k.0.atoms k.1);
+        few = omega (arith, k.0.few, k.1, count);
+        fewer = λ t. omega (arith, k.0.fewer t, k.1, count);
+        small = child_small;
+        size = k.0.size;
+        classes = k.0.classes;
+      }
 
   -- the atom is sent: the head atom is sound, and the classes stay fit
   module _ (h : 0 < d) where
@@ -171,20 +162,19 @@ count_few h n a b =
 pub fits_below : (A : Question) → ((a : Atom) → a ∈ A → AtomFits in_book a) → Below 48 A
 fits_below A f n m = let r = terms_out A m in (f r.0 r.1).terms (Term.var n) r.2
 
-module _ (Q B : List ℕ) (p : Parts) (q : QuestionIn Q) (r : RuleIn B p) (A table : List ℕ)
-    (e : A ≡ held_in stored record_room []) (o : classes_of table ≡ own 0 96) where
+module _ (Q B : List ℕ) (p : Parts) (q : QuestionIn Q) (r : RuleIn B p) (A : Question) (table : List ℕ)
+    (e : A ≡ []) (o : classes_of table ≡ own 0 96) where
   all_entries : length (map term_of table) ≡ length (own 0 96)
   unfolding classes_of
   all_entries = ap length o
 
   pub start_asks : Asks Q B p 1 (get_or Q 0 0) 0 false A table
   start_asks =
-      let l = left_none A e in
       record {
         atoms = q.atoms;
         rule = r;
-        left = l.0;
-        few = omega (arith, q.few, l.2);
+        left = subst LeftIn (sym e) left_none;
+        few = omega (arith, q.few, ap length e);
         fewer = λ t. let z : ◌≡◌ {A = ℕ} 0 1 = cc in absurd (omega arith);
         small = omega (arith, count_few p.heads (get_or Q 0 0) r.few_head q.few);
         size = sym (length-map table term_of) ∙ all_entries ∙ own_length 0 96;
@@ -192,12 +182,12 @@ module _ (Q B : List ℕ) (p : Parts) (q : QuestionIn Q) (r : RuleIn B p) (A tab
       }
 
   pub start_next : (from : ℕ)
-      → first (table_builder 48 (rule_of B p) from) 0 (question_of stored A) false (atoms_at stored Q 1 (get_or Q 0 0))
+      → first (table_builder 48 (rule_of B p) from) 0 A false (atoms_at stored Q 1 (get_or Q 0 0))
       (classes_of table)
       ≡ next 48 (rule_of B p) (question_of stored Q) from
   unfolding rule_in
   start_next from =
-      rw ((left_none A e).1, o, question_at_lem stored Q refl)
+      rw (e, o, question_at_lem stored Q refl)
       (sym
       (next_table 48 48 (rule_of B p) (atoms_at stored Q 1 (get_or Q 0 0)) from
       (fits_below _ (all_fit Q 1 (get_or Q 0 0) q.atoms))

@@ -9,7 +9,7 @@ use native.Mathlib.Nat.{mul-le-mul_left}
 use native.Mathlib.Omega.{arith}
 use lib.ListN.{length, get_or}
 use Rattle.covering.specs.Term.{Question}
-use Rattle.covering.specs.Record.{stored, question_of, atoms_at}
+use Rattle.covering.specs.Record.{stored, atoms_at}
 use Rattle.book.specs.declared.Parts.{Parts}
 use Rattle.unification.specs.Step.{move}
 use Rattle.unify.specs.Table.{tabled, own}
@@ -86,7 +86,9 @@ module _ {Q B table : List ℕ} {p : Parts} {passed more number sent d : ℕ}
       with_digit (omega (arith, doubled))
       (subst
       (λ s. Asks Q B p (1 + passed * 7 + 7) (more - 1) next s (left_by Q (passed + 1) (sent * 2)) table)
-      (as_before sent) (child_left tries (left_more Q passed sent)))
+      (as_before sent)
+      (subst (λ A. Asks Q B p (1 + passed * 7 + 7) (more - 1) next (any_sent sent) A table) (sym (left_more Q passed sent))
+      (child_left tries)))
 
   -- the atom is put on a head atom, in a copy of the classes
   module _ (h : 0 < d) (ok : Bool) (copy table' : List ℕ)
@@ -108,7 +110,7 @@ module _ {Q B table : List ℕ} {p : Parts} {passed more number sent d : ℕ}
 
       -- no choice that goes on is then valid
       pub gives_up : (from : ℕ)
-          → Hopeless (tabled (classes_of table')) (move 48 (rule_of B p)) (question_of stored (left_by Q passed sent))
+          → Hopeless (tabled (classes_of table')) (move 48 (rule_of B p)) (left_by Q passed sent)
           (atoms_at stored Q (1 + (passed + 1) * 7) (more - 1))
           → by_d from ≡ none
       gives_up from hopeless =
@@ -116,7 +118,7 @@ module _ {Q B table : List ℕ} {p : Parts} {passed more number sent d : ℕ}
           ∙ asked_hopeless as_sent from
           (subst
           (λ i.
-          Hopeless (tabled (classes_of table')) (move 48 (rule_of B p)) (question_of stored (left_by Q passed sent))
+          Hopeless (tabled (classes_of table')) (move 48 (rule_of B p)) (left_by Q passed sent)
           (atoms_at stored Q i (more - 1)))
           (sym (next_place passed)) hopeless)
 

@@ -2,7 +2,6 @@
 -- adds to the atoms left and to the classes. Assumes nothing.
 use mathlib.Core.Path.{◌≡◌, refl, sym, ◌∙◌, ap, ap₂, subst}
 use mathlib.Core.Bool.{true, false, cond}
-use mathlib.Core.Logic.{◌⊎◌, inl, inr}
 use mathlib.Core.List.Memᴰ
 use mathlib.Core.List.{List, [], ◌∷◌, ◌++◌}
 use mathlib.Core.Option.{Option, none, some}
@@ -15,7 +14,6 @@ use lib.Seq.{take-suc, drop-cons, take-add, length-take-le}
 use Rattle.covering.specs.Lists.{◌∈◌, bind}
 use Rattle.covering.specs.Term.{Term, var, con, Atom, Question, Sub}
 use Rattle.covering.specs.Record.{stored, atom_at, atoms_at, question_of, AtomFits, TermFits}
-use Rattle.covering.specs.Buffer.{held_in, record_room}
 use Rattle.covering.specs.Rule.{Rule}
 use Rattle.covering.proofs.Lengths.{count_atoms, question_count}
 use Rattle.covering.proofs.Places.{question_at_lem}
@@ -23,7 +21,6 @@ use Rattle.book.specs.declared.Parts.{Parts}
 use Rattle.unification.specs.Classes.{Pair, unify}
 use Rattle.unification.specs.Choice.{Choice, count, number, choices, left, pairing}
 use Rattle.unification.specs.Step.{move, rewriting}
-use Rattle.unification.proofs.Choices.{left_in}
 use Rattle.unification.proofs.Extending.{left_extends, unify_extends, unify_stops}
 use Rattle.unification.proofs.Moved.{moved_below}
 use Rattle.unification.proofs.Numbers.{choice_length, number_below}
@@ -32,9 +29,8 @@ use Rattle.unify.specs.InBytes.{in_book, rule_in, rule_of, classes_of}
 use Rattle.unify.specs.Table.{own, unify_table}
 use Rattle.unify.proofs.TableBytes.{merged_yes, merged_no}
 use Rattle.lister.specs.FirstDigits.{surely_left, settled, DigitFor, DigitPut}
-use Rattle.lister.specs.Listing.{RuleIn, QuestionIn, LeftIn, ClassesFit}
+use Rattle.lister.specs.Listing.{RuleIn, QuestionIn, ClassesFit}
 use Rattle.lister.proofs.Asked.{fits_below, apart_fit}
-use Rattle.lister.proofs.LeftAtoms.{left_held, left_none, left_each}
 use Rattle.lister.proofs.RewritingBytes.{all_fit}
 use Rattle.lister.proofs.Table.{In, Agree, BothTables, Small, unify_same, own_agrees, below_in}
 use Rattle.lister.proofs.OneDigit.{nth_atom, count_classes, nth_in_book, digit_pairs, one_left}
@@ -45,32 +41,29 @@ settled_by r Q p ds σ =
     cond (leb (length (surely_left r Q p ds)) 8) (some (rewriting σ (surely_left r Q p ds) (move 48 r))) none
 
 -- the first j digits of the choice with number c: the atoms that they leave, their classes, and the number of the rest
-pub record Begun (Q B : List ℕ) (p : Parts) (c j rest : ℕ) (A table : List ℕ) : Type 0 where
+pub record Begun (Q B : List ℕ) (p : Parts) (c j rest : ℕ) (A : Question) (table : List ℕ) : Type 0 where
   pub choice : Choice
   pub among : choice ∈ choices p.heads (get_or Q 0 0)
   pub place : number p.heads choice ≡ c
   pub rest_is : rest ≡ number p.heads (drop j choice)
-  pub left_in : LeftIn A
-  pub left_is : question_of stored A ≡ left (take j choice) (take j (question_of stored Q))
-  pub few : get_or A 0 0 ≤ j
+  pub left_is : A ≡ left (take j choice) (take j (question_of stored Q))
+  pub few : length A ≤ j
   pub classes : Sub
   pub found : unify (pairing (take j choice) (take j (question_of stored Q)) (move 48 (rule_of B p)).head) var ≡ some classes
   pub agree : Agree 96 (classes_of table) classes
   pub fit : ClassesFit table
 
-pub begun_first : {Q B : List ℕ} {p : Parts} {c : ℕ} {A table : List ℕ} → c < count p.heads (get_or Q 0 0)
-    → A ≡ held_in stored record_room [] → classes_of table ≡ own 0 96 → Begun Q B p c 0 c A table
+pub begun_first : {Q B : List ℕ} {p : Parts} {c : ℕ} {A : Question} {table : List ℕ} → c < count p.heads (get_or Q 0 0)
+    → A ≡ [] → classes_of table ≡ own 0 96 → Begun Q B p c 0 c A table
 begun_first {Q} {B} {p} {c} {A} {table} l e o =
     let x = numbered p.heads (get_or Q 0 0) c l in
-    let n = left_none A e in
     record {
       choice = x.choice;
       among = x.among;
       place = x.place;
       rest_is = sym x.place;
-      left_in = n.0;
-      left_is = n.1;
-      few = omega (arith, n.2);
+      left_is = e;
+      few = rw e (omega arith);
       classes = var;
       found = refl;
       agree = subst (λ m. Agree 96 m var) (sym o) (own_agrees 96);
@@ -78,7 +71,7 @@ begun_first {Q} {B} {p} {c} {A} {table} l e o =
     }
 
 -- one digit more
-module _ {Q B : List ℕ} {p : Parts} {c j rest : ℕ} {A table : List ℕ} (q : QuestionIn Q) (r : RuleIn B p)
+module _ {Q B : List ℕ} {p : Parts} {c j rest : ℕ} {A : Question} {table : List ℕ} (q : QuestionIn Q) (r : RuleIn B p)
     (b : Begun Q B p c j rest A table) (l : j < get_or Q 0 0) {each : ℕ} (all : each ≡ count p.heads (get_or Q 0 0 - 1 - j))
   where
     abbrev h : ℕ
@@ -157,7 +150,6 @@ module _ {Q B : List ℕ} {p : Parts} {c j rest : ℕ} {A table : List ℕ} (q :
         record {
           atom = nth_in_book q l;
           rule = r;
-          left_in = b.left_in;
           few = omega (arith, b.few, q.few);
           size = count_classes table ∙ b.agree.size;
           classes = b.fit;
@@ -223,7 +215,7 @@ module _ {Q B : List ℕ} {p : Parts} {c j rest : ℕ} {A table : List ℕ} (q :
         unify_same 96 pairs (classes_of table) b.classes small_pairs b.agree
 
     -- the atom is left or sent
-    module _ {A' table' : List ℕ} where
+    module _ {A' : Question} {table' : List ℕ} where
       pub begun_next : DigitPut Q B p (1 + j * 7) (rest / each) A table true A' table'
           → Begun Q B p c (j + 1) (rest % each) A' table'
       begun_next u = go (unify pairs b.classes) refl held
@@ -233,43 +225,32 @@ module _ {Q B : List ℕ} {p : Parts} {c j rest : ℕ} {A table : List ℕ} (q :
               subst (λ o. BothTables (Agree 96) o (unify pairs b.classes))
               (sym u.meets ∙ merged_yes true table' refl) both_tables
 
-          counted : length (question_of stored A ++ left (rest / each ∷ []) (a ∷ [])) ≤ j + 1
+          counted : length A' ≤ j + 1
           counted =
               omega (
                 arith,
-                length-append (question_of stored A) (left (rest / each ∷ []) (a ∷ [])),
-                question_count stored A,
+                ap length u.leaves,
+                length-append A (left (rest / each ∷ []) (a ∷ [])),
                 b.few,
                 one_left (rest / each) a,
               )
-
-          fit_each : (x : Atom) → x ∈ question_of stored A ++ left (rest / each ∷ []) (a ∷ []) → AtomFits in_book x
-          fit_each x m = at (Memᴰ.append_cases (question_of stored A) m)
-            where
-              at : (x ∈ question_of stored A) ⊎ (x ∈ left (rest / each ∷ []) (a ∷ [])) → AtomFits in_book x
-              at (inl i) = left_each A b.left_in x i
-              at (inr i) =
-                  subst (AtomFits in_book)
-                  (sym (Memᴰ.eq_of_singleton (left_in (rest / each ∷ []) (a ∷ []) x i))) atom_fits
 
           go : (o : Option Sub) → unify pairs b.classes ≡ o
               → BothTables (Agree 96) (some (classes_of table')) o → Begun Q B p c (j + 1) (rest % each) A' table'
           go none e x = absurd x
           go (some τ) e x =
-              let k = left_held A' _ u.leaves fit_each (omega (arith, counted, q.few)) in
               record {
                 choice = b.choice;
                 among = b.among;
                 place = b.place;
                 rest_is = later_is;
-                left_in = k.0;
                 left_is =
-                    k.1
+                    u.leaves
                     ∙ ap (λ L. L ++ left (rest / each ∷ []) (a ∷ [])) b.left_is
                     ∙ sym
                     (ap₂ left more_digits more_atoms
                     ∙ left_extends (take j b.choice) (rest / each ∷ []) (take j Q₀) (a ∷ []) as_many);
-                few = omega (arith, k.2, counted);
+                few = counted;
                 classes = τ;
                 found = more_classes ∙ e;
                 agree = x;

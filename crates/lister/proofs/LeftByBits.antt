@@ -1,4 +1,4 @@
--- The record of the atoms that a prefix leaves: what one atom more, left or sent, makes of it, and that it is sound.
+-- The atoms that a prefix leaves: what one atom more, left or sent, makes of them, and that they are sound.
 -- Assumes nothing.
 use borrow.Author.Tests.{eq-eqb, ne_eqb}
 use mathlib.Core.Path.{◌≡◌, refl, sym, ◌∙◌, ap, subst}
@@ -8,14 +8,15 @@ use Prim.Native.Nat.{ℕ, zero, suc, ◌+◌, ◌*◌, ◌-◌, ◌/◌, ◌%◌
 use native.Mathlib.Nat.{mul-add-div_right, mul-add-mod_self_right, mul-div_cancel, mul-mod_left}
 use native.Mathlib.Omega.{arith}
 use lib.Dec.{eqb}
-use lib.ListN.{get_or}
-use Rattle.covering.specs.Record.{stored, atom_at, question_of}
-use Rattle.covering.specs.Buffer.{held_in, AtomIn, AtomsIn, RoomLeft, record_room}
+use lib.ListN.{length, get_or}
+use Rattle.covering.specs.Term.{Question}
+use Rattle.covering.specs.Record.{stored, atom_at}
+use Rattle.covering.specs.Buffer.{AtomIn, AtomsIn}
 use Rattle.unify.specs.InBytes.{in_book}
 use Rattle.lister.specs.Leaving.{left_by}
 use Rattle.lister.specs.Listing.{QuestionIn, LeftIn}
 use Rattle.lister.proofs.RewritingBytes.{rest_in, first_fits, first_atom_in}
-use Rattle.lister.proofs.LeftAtoms.{left_none, left_put, left_room}
+use Rattle.lister.proofs.LeftAtoms.{left_none, left_put, one_more}
 
 -- the atoms after the first e
 rest_after : (B : List ℕ) (i n e : ℕ) → e ≤ n → AtomsIn in_book B i n → AtomsIn in_book B (i + e * 7) (n - e)
@@ -30,9 +31,9 @@ rest_after B i n (suc e) h a =
     (subst (AtomsIn in_book B (i + 7 + e * 7)) all
     (rest_after B (i + 7) (n - 1) e (omega arith) (rest_in B i n a (omega arith))))
 
--- the record with the atom after the first n put to it
-abbrev pub with_atom : List ℕ → ℕ → List ℕ → List ℕ
-with_atom Q n A = held_in stored record_room (question_of stored A ++ atom_at stored Q (1 + n * 7) ∷ [])
+-- A with the atom after the first n put to it
+abbrev pub with_atom : List ℕ → ℕ → Question → Question
+with_atom Q n A = A ++ atom_at stored Q (1 + n * 7) ∷ []
 
 less_one : (n : ℕ) → n ≡ suc n - 1
 less_one n = omega arith
@@ -41,7 +42,7 @@ add_less : (n : ℕ) → n + 1 - 1 ≡ n
 add_less n = omega arith
 
 module _ (Q : List ℕ) where
-  pub none_left : (n m : ℕ) → n ≡ 0 → left_by Q n m ≡ held_in stored record_room []
+  pub none_left : (n m : ℕ) → n ≡ 0 → left_by Q n m ≡ []
   unfolding left_by
   none_left n m e = rw e refl
 
@@ -82,28 +83,27 @@ module _ (Q : List ℕ) where
     from_there : (n : ℕ) → n < get_or Q 0 0 → AtomsIn in_book Q (1 + n * 7) (get_or Q 0 0 - n)
     from_there n h = rest_after Q 1 (get_or Q 0 0) n (omega arith) q.atoms
 
-    -- it is sound, and has no more atoms than there are
-    pub left_sound : (n m : ℕ) → n ≤ get_or Q 0 0 → LeftIn (left_by Q n m) × (get_or (left_by Q n m) 0 0 ≤ n)
+    -- they are sound, and no more than there are
+    pub left_sound : (n m : ℕ) → n ≤ get_or Q 0 0 → LeftIn (left_by Q n m) × (length (left_by Q n m) ≤ n)
     unfolding left_by
-    left_sound zero m h = let l = left_none (left_by Q 0 m) refl in (l.0, omega (arith, l.2))
+    left_sound zero m h = (left_none, omega arith)
     left_sound (suc n) m h = go (eqb (m % 2) 1) (left_sound n (m / 2) (omega arith))
       where
-        A : List ℕ
+        A : Question
         A = left_by Q n (m / 2)
 
-        go : (b : Bool) → LeftIn A × (get_or A 0 0 ≤ n)
-            → LeftIn (cond b A (with_atom Q n A)) × (get_or (cond b A (with_atom Q n A)) 0 0 ≤ suc n)
+        go : (b : Bool) → LeftIn A × (length A ≤ n)
+            → LeftIn (cond b A (with_atom Q n A)) × (length (cond b A (with_atom Q n A)) ≤ suc n)
         go true l = (l.0, omega (arith, l.1))
         go false l =
-            let few : get_or A 0 0 ≤ 8 = omega (arith, l.1, q.few) in
+            let a = atom_at stored Q (1 + n * 7) in
             let fits = first_fits Q (1 + n * 7) (get_or Q 0 0 - n) (from_there n (omega arith)) (omega arith) in
-            let p = left_put A (with_atom Q n A) (atom_at stored Q (1 + n * 7)) l.0 few fits refl in
-            (p.0, omega (arith, l.1, p.2))
+            (left_put A a l.0 fits, omega (arith, l.1, one_more A a))
 
     -- there is room for the next atom
-    pub room_for : (n m : ℕ) → n < get_or Q 0 0 → RoomLeft stored record_room (left_by Q n m) × AtomIn stored Q (1 + n * 7)
+    pub room_for : (n m : ℕ) → n < get_or Q 0 0 → (length (left_by Q n m) < 12) × AtomIn stored Q (1 + n * 7)
     room_for n m h =
         let l = left_sound n m (omega arith) in (
-          left_room (left_by Q n m) l.0 (omega (arith, l.1, q.few)),
+          omega (arith, l.1, q.few),
           first_atom_in Q (1 + n * 7) (get_or Q 0 0 - n) (from_there n h) (omega arith),
         )

@@ -9,8 +9,8 @@ use native.Mathlib.Omega.{arith}
 use lib.ListN.{length, get_or, length-map}
 use Rattle.covering.specs.Lists.{◌∈◌}
 use Rattle.covering.specs.Term.{Term, Atom, Question, on_atom, terms}
-use Rattle.covering.specs.Record.{Layout, size, stored, term_of, atom_at, atoms_at, question_of}
-use Rattle.covering.specs.Buffer.{held_in, AtomIn, record_room}
+use Rattle.covering.specs.Record.{Layout, size, stored, term_of, atom_at, atoms_at}
+use Rattle.covering.specs.Buffer.{AtomIn}
 use Rattle.covering.proofs.Places.{atoms_step}
 use Rattle.book.specs.declared.Parts.{Parts}
 use Rattle.unification.specs.Choice.{left, to_head, pairing, atom_pairs}
@@ -23,6 +23,7 @@ use Rattle.lister.specs.Listing.{QuestionIn}
 use Rattle.lister.proofs.Answers.{pairs_are}
 use Rattle.unify.proofs.EachTerm.{nth_sound}
 use Rattle.lister.proofs.Asked.{Tries, child_sent, count_few}
+use Rattle.lister.proofs.LeftAtoms.{left_none}
 use Rattle.lister.proofs.RewritingBytes.{one_atom}
 use Rattle.lister.proofs.Table.{In, Small, head_small}
 
@@ -53,14 +54,14 @@ nth_in_book {Q} q {j} l =
     record { fits = omega (arith, q.atoms.fits); sound = nth_sound Q (get_or Q 0 0) j 1 l q.atoms.sound }
 
 -- one digit more, as `put_digit` is asked for it
-module _ {Q B : List ℕ} {p : Parts} {i d : ℕ} {A table : List ℕ} (f : DigitFor Q B p i d A table) where
-  pub digit_tries : Tries Q B p i 1 0 false A table d
+module _ {Q B : List ℕ} {p : Parts} {i d : ℕ} {A : Question} {table : List ℕ} (f : DigitFor Q B p i d A table) where
+  pub digit_tries : Tries Q B p i 1 0 false [] table d
   digit_tries = (
     record {
       atoms = one_atom f.atom;
       rule = f.rule;
-      left = f.left_in;
-      few = omega (arith, f.few);
+      left = left_none;
+      few = omega arith;
       fewer = λ t. let z : ◌≡◌ {A = ℕ} 0 1 = cc in absurd (omega arith);
       small = omega (arith, count_few p.heads 1 f.rule.few_head (omega arith));
       size = f.size;
@@ -71,7 +72,7 @@ module _ {Q B : List ℕ} {p : Parts} {i d : ℕ} {A table : List ℕ} (f : Digi
   )
 
   -- the atom is left
-  pub put_left : {R : List ℕ} → d ≡ 0 → R ≡ held_in stored record_room (question_of stored A ++ atom_at stored Q i ∷ [])
+  pub put_left : {R : Question} → d ≡ 0 → R ≡ A ++ atom_at stored Q i ∷ []
       → DigitPut Q B p i d A table true R table
   put_left {R} e r =
       subst (λ x. DigitPut Q B p i x A table true R table) (sym e)
@@ -90,10 +91,7 @@ module _ {Q B : List ℕ} {p : Parts} {i d : ℕ} {A table : List ℕ} (f : Digi
           let r = pairs_are B p (atom_at stored Q i) d h f.small in
           record {
             leaves =
-                f.left_in.holds
-                ∙ ap (held_in stored record_room)
-                (sym (append-nil (question_of stored A))
-                ∙ ap (λ x. question_of stored A ++ left (x ∷ []) (atom_at stored Q i ∷ [])) (sym r.1));
+                sym (append-nil A) ∙ ap (λ x. A ++ left (x ∷ []) (atom_at stored Q i ∷ [])) (sym r.1);
             meets =
                 e
                 ∙ ap (λ ps. unify_table ps (classes_of table)) (sym (append-nil _ ∙ r.2))

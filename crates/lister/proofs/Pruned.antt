@@ -1,16 +1,15 @@
 -- A prefix that is not valid gives nothing, whatever atoms are still to come: over classes (`invalid_stays`), over a table
 -- that has all variables in play (`table_invalid`), and over bytes, as `build` is asked (`asked_invalid`). Assumes nothing.
-use mathlib.Core.Path.{◌≡◌, refl, sym, ◌∙◌, subst}
+use mathlib.Core.Path.{◌≡◌, refl, ◌∙◌}
 use mathlib.Core.Bool.{Bool, false}
 use mathlib.Core.List.{List}
 use mathlib.Core.Option.{none}
 use Prim.Native.Nat.{ℕ, ◌<◌}
 use native.Mathlib.Omega.{arith}
-use lib.ListN.{length, get_or, length-map}
+use lib.ListN.{length, length-map}
 use Rattle.covering.specs.Term.{Question, Sub, Below}
-use Rattle.covering.specs.Record.{stored, term_of, atoms_at, question_of}
+use Rattle.covering.specs.Record.{stored, term_of, atoms_at}
 use Rattle.covering.specs.Rule.{Rule}
-use Rattle.covering.proofs.Places.{question_at_lem}
 use Rattle.book.specs.declared.Parts.{Parts}
 use Rattle.unification.specs.Choice.{to_head}
 use Rattle.unification.specs.Step.{move, valid}
@@ -57,7 +56,7 @@ module _ (k : ℕ) (r : Rule) (n : ℕ) where
 below_more : (A : Question) → Below 48 A → Below 96 A
 below_more A f n m = let h : n < 48 = f n m in omega arith
 
-module _ {Q B : List ℕ} {p : Parts} {i more number : ℕ} {sent : Bool} {A table : List ℕ}
+module _ {Q B : List ℕ} {p : Parts} {i more number : ℕ} {sent : Bool} {A : Question} {table : List ℕ}
     (asks : Asks Q B p i more number sent A table) (from : ℕ)
   where
     pub low_body : Below 96 (move 48 (rule_of B p)).body
@@ -75,19 +74,17 @@ module _ {Q B : List ℕ} {p : Parts} {i more number : ℕ} {sent : Bool} {A tab
     pub low_rest : Below 96 (atoms_at stored Q i more)
     low_rest = below_more (atoms_at stored Q i more) (fits_below _ (all_fit Q i more asks.atoms))
 
-    pub low_left : Below 96 (question_of stored A)
-    low_left =
-        subst (Below 96) (sym (question_at_lem stored A refl))
-        (below_more (atoms_at stored A 1 (get_or A 0 0)) (fits_below _ (all_fit A 1 (get_or A 0 0) asks.left.atoms)))
+    pub low_left : Below 96 A
+    low_left = below_more A (fits_below A asks.left.each)
 
     pub whole : length (classes_of table) ≡ 96
     unfolding classes_of
     whole = length-map table term_of ∙ asks.size
 
-    pub asked_invalid : valid (tabled (classes_of table)) (question_of stored A) (move 48 (rule_of B p)) ≡ false
-        → first (table_builder 48 (rule_of B p) from) number (question_of stored A) sent (atoms_at stored Q i more)
+    pub asked_invalid : valid (tabled (classes_of table)) A (move 48 (rule_of B p)) ≡ false
+        → first (table_builder 48 (rule_of B p) from) number A sent (atoms_at stored Q i more)
         (classes_of table)
         ≡ none
     asked_invalid =
-        table_invalid 48 (rule_of B p) from 96 low_body low_head (atoms_at stored Q i more) number (question_of stored A)
+        table_invalid 48 (rule_of B p) from 96 low_body low_head (atoms_at stored Q i more) number A
         sent (classes_of table) low_rest low_left whole

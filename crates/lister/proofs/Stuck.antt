@@ -13,7 +13,7 @@ use lib.Dec.{T}
 use lib.ListN.{length}
 use Rattle.covering.specs.Lists.{◌∈◌, bind, numbers}
 use Rattle.covering.specs.Term.{Term, con, Atom, Question, Sub, on_term, terms, eq_term, is_var, Below}
-use Rattle.covering.specs.Record.{stored, atoms_at, question_of}
+use Rattle.covering.specs.Record.{stored, atoms_at}
 use Rattle.covering.specs.Rule.{Rule}
 use Rattle.covering.proofs.Lists.{all_out}
 use Rattle.covering.proofs.Terms.{con_inj, eq_term→eq, eq→eq_term, terms_in}
@@ -173,14 +173,14 @@ module _ (k : ℕ) (r : Rule) (n : ℕ) (a : Atom) where
           ∙ stuck_nothing q i w L b (tabled m) s
 
 -- as `build` is asked
-module _ {Q B : List ℕ} {p : Parts} {i left number : ℕ} {sent : Bool} {A table : List ℕ}
+module _ {Q B : List ℕ} {p : Parts} {i left number : ℕ} {sent : Bool} {A : Question} {table : List ℕ}
     (asks : Asks Q B p i left number sent A table) (from : ℕ)
   where
-    pub asked_hopeless : Hopeless (tabled (classes_of table)) (move 48 (rule_of B p)) (question_of stored A) (atoms_at stored Q i left)
-        → first (table_builder 48 (rule_of B p) from) number (question_of stored A) sent (atoms_at stored Q i left)
+    pub asked_hopeless : Hopeless (tabled (classes_of table)) (move 48 (rule_of B p)) A (atoms_at stored Q i left)
+        → first (table_builder 48 (rule_of B p) from) number A sent (atoms_at stored Q i left)
         (classes_of table)
         ≡ none
     asked_hopeless (inl e) = asked_invalid asks from e
     asked_hopeless (inr s) =
         table_stuck 48 (rule_of B p) from s.0 96 (low_body asks from) (low_head asks from) (atoms_at stored Q i left) number
-        (question_of stored A) sent (classes_of table) (low_rest asks from) (low_left asks from) (whole asks from) s.1 s.2
+        A sent (classes_of table) (low_rest asks from) (low_left asks from) (whole asks from) s.1 s.2

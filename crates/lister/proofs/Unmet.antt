@@ -11,20 +11,19 @@ use lib.ListN.{length, get_or, drop, take, take-append-drop}
 use lib.Seq.{drop-cons, drop-length}
 use Rattle.covering.specs.Lists.{◌∈◌, any}
 use Rattle.covering.specs.Term.{Atom, Question}
-use Rattle.covering.specs.Record.{stored, atom_at, atoms_at, question_of, AtomFits}
-use Rattle.covering.specs.Buffer.{held_in, AtomIn, record_room}
+use Rattle.covering.specs.Record.{stored, atom_at, question_of}
+use Rattle.covering.specs.Buffer.{AtomIn}
 use Rattle.covering.proofs.Lengths.{question_count}
 use Rattle.covering.proofs.Lists.{keep_out, any_in}
 use Rattle.covering.proofs.Places.{relation_at, atoms_none, atoms_step, question_at_lem}
 use Rattle.covering.proofs.Tests.{clash}
 use Rattle.unification.proofs.Unrelated.{Unrelated}
-use Rattle.unify.specs.InBytes.{in_book}
 use Rattle.std.specs.List.{list_any, range_with_len}
 use Rattle.lister.specs.FirstDigits.{unmet}
-use Rattle.lister.specs.Listing.{QuestionIn, LeftIn}
-use Rattle.lister.proofs.RewritingBytes.{first_fits, first_atom_in, one_atom}
+use Rattle.lister.specs.Listing.{QuestionIn}
+use Rattle.lister.proofs.RewritingBytes.{first_atom_in, one_atom}
 use Rattle.lister.proofs.OneDigit.{nth_atom, nth_in_book}
-use Rattle.lister.proofs.LeftAtoms.{left_put}
+use Rattle.lister.proofs.LeftAtoms.{one_more}
 
 -- whether an atom of H has the relation
 abbrev pub met : ℕ → Question → Bool
@@ -92,30 +91,23 @@ module _ {Q : List ℕ} (q : QuestionIn Q) {j : ℕ} (l : j < get_or Q 0 0) wher
   pub atom_in : AtomIn stored Q (1 + j * 7)
   atom_in = first_atom_in Q (1 + j * 7) 1 (one_atom (nth_in_book q l)) (omega arith)
 
-  atom_fits : AtomFits in_book (atom_at stored Q (1 + j * 7))
-  atom_fits = first_fits Q (1 + j * 7) 1 (one_atom (nth_in_book q l)) (omega arith)
-
 -- what a turn of the loop keeps: X is to be left in all
-pub record Leaving (H X : Question) (Q : List ℕ) (j : ℕ) (A : List ℕ) : Type 0 where
+pub record Leaving (H X : Question) (Q : List ℕ) (j : ℕ) (A : Question) : Type 0 where
   pub inside : j ≤ get_or Q 0 0
-  pub few : get_or A 0 0 ≤ j
-  pub left_in : LeftIn A
-  pub is : question_of stored A ++ unmet H (drop j (question_of stored Q)) ≡ X
+  pub few : length A ≤ j
+  pub is : A ++ unmet H (drop j (question_of stored Q)) ≡ X
 
-module _ {H X : Question} {Q : List ℕ} {j : ℕ} {A : List ℕ} (q : QuestionIn Q) (w : Leaving H X Q j A) where
+module _ {H X : Question} {Q : List ℕ} {j : ℕ} {A : Question} (w : Leaving H X Q j A) where
   -- the j-th atom is left too
-  pub leaving_more : (l : j < get_or Q 0 0) → not (met (get_or Q (1 + j * 7) 0) H) ≡ true → {A' : List ℕ}
-      → A' ≡ held_in stored record_room (question_of stored A ++ atom_at stored Q (1 + j * 7) ∷ [])
-      → Leaving H X Q (j + 1) A'
+  pub leaving_more : (l : j < get_or Q 0 0) → not (met (get_or Q (1 + j * 7) 0) H) ≡ true → {A' : Question}
+      → A' ≡ A ++ atom_at stored Q (1 + j * 7) ∷ [] → Leaving H X Q (j + 1) A'
   leaving_more l e {A'} r =
-      let p = left_put A A' (atom_at stored Q (1 + j * 7)) w.left_in (omega (arith, w.few, q.few)) (atom_fits q l) r in
       record {
         inside = omega arith;
-        few = omega (arith, p.2, w.few);
-        left_in = p.0;
+        few = omega (arith, w.few, ap length r, one_more A (atom_at stored Q (1 + j * 7)));
         is =
-            ap (λ (Y : Question). Y ++ unmet H (drop (j + 1) (question_of stored Q))) p.1
-            ∙ unmet_more H Q j l (question_of stored A)
+            ap (λ (Y : Question). Y ++ unmet H (drop (j + 1) (question_of stored Q))) r
+            ∙ unmet_more H Q j l A
             (ap (λ (n : ℕ). not (met n H)) (relation_at stored Q (1 + j * 7)) ∙ e)
             ∙ w.is;
       }
@@ -126,17 +118,16 @@ module _ {H X : Question} {Q : List ℕ} {j : ℕ} {A : List ℕ} (q : QuestionI
       record {
         inside = omega arith;
         few = omega (arith, w.few);
-        left_in = w.left_in;
         is =
-            ap (λ (Y : Question). question_of stored A ++ Y)
+            ap (λ (Y : Question). A ++ Y)
             (unmet_same H Q j l (ap (λ (n : ℕ). not (met n H)) (relation_at stored Q (1 + j * 7)) ∙ e))
             ∙ w.is;
       }
 
-  pub leaving_done : get_or Q 0 0 ≤ j → question_of stored A ≡ X
+  pub leaving_done : get_or Q 0 0 ≤ j → A ≡ X
   leaving_done h =
       let all : length (question_of stored Q) ≡ j = omega (arith, question_count stored Q, w.inside) in
-      sym (append-nil (question_of stored A))
-      ∙ ap (λ (Y : Question). question_of stored A ++ unmet H Y)
+      sym (append-nil A)
+      ∙ ap (λ (Y : Question). A ++ unmet H Y)
       (sym (drop-length (question_of stored Q)) ∙ ap (λ (n : ℕ). drop n (question_of stored Q)) all)
       ∙ w.is

@@ -1,11 +1,11 @@
 -- The first digits of a choice, and what they settle of every choice that has them, as the code holds it.
-use Rattle.std.specs.Prelude.{◌≡◌, Bool, true, not, cond, List, [], ◌∷◌, ◌++◌, ℕ, ◌≤◌, eqb, leb, length, get_or, take, drop, Some, None}
+use Rattle.std.specs.Prelude.{◌≡◌, Bool, true, not, cond, List, [], ◌∷◌, ◌++◌, ℕ, ◌≤◌, eqb, leb, length, take, drop, Some, None}
 use Rattle.std.specs.Prelude.{Option as Answer}
 use Rattle.std.proofs.Math.Option.{Option, none, some}
 use Rattle.covering.specs.Lists.{◌∈◌, bind, keep, any}
 use Rattle.covering.specs.Term.{Question, var}
-use Rattle.covering.specs.Record.{stored, atom_at, question_of, Fits}
-use Rattle.covering.specs.Buffer.{held_in, AtomIn, record_room}
+use Rattle.covering.specs.Record.{stored, atom_at}
+use Rattle.covering.specs.Buffer.{AtomIn}
 use Rattle.covering.specs.Rule.{Rule}
 use Rattle.book.specs.declared.Parts.{Parts}
 use Rattle.unification.specs.Classes.{unify}
@@ -13,7 +13,7 @@ use Rattle.unification.specs.Choice.{Choice, number, choices, left, pairing}
 use Rattle.unification.specs.Step.{move, rewriting}
 use Rattle.unify.specs.InBytes.{in_book, rule_of, classes_of, merged}
 use Rattle.unify.specs.Table.{unify_table}
-use Rattle.lister.specs.Listing.{RuleIn, LeftIn, ClassesFit}
+use Rattle.lister.specs.Listing.{RuleIn, ClassesFit}
 
 -- the atoms of Q with the relation of no atom of H, which no choice sends there
 abbrev pub unmet : Question → Question → Question
@@ -31,36 +31,30 @@ settled k r Q p ds =
     (λ σ. cond (leb (length (surely_left r Q p ds)) 8) (some (rewriting σ (surely_left r Q p ds) (move k r))) none)
 
 -- how the code holds it
-abbrev pub settled_of : Option Question → Answer (List ℕ)
+abbrev pub settled_of : Option Question → Answer Question
 settled_of none = None
-settled_of (some X) = Some (held_in stored record_room X)
+settled_of (some X) = Some X
 
 -- what the first p digits of the choice with number c settle of the question Q
-pub record PrefixIs (r : Rule) (Q : Question) (c p : ℕ) (x : Answer (List ℕ)) : Type 0 where
+pub record PrefixIs (r : Rule) (Q : Question) (c p : ℕ) (x : Answer Question) : Type 0 where
   pub choice : Choice
   pub among : choice ∈ choices (length r.head) (length Q)
   pub place : number (length r.head) choice ≡ c
   pub is : x ≡ settled_of (settled 48 r Q p choice)
-  pub fits : (X : Question) → settled 48 r Q p choice ≡ some X → Fits stored X
 
 -- what is asked for one digit more: a sound atom at i, at most eight left so far, the classes so far
-pub record DigitFor (Q B : List ℕ) (p : Parts) (i d : ℕ) (A table : List ℕ) : Type 0 where
+pub record DigitFor (Q B : List ℕ) (p : Parts) (i d : ℕ) (A : Question) (table : List ℕ) : Type 0 where
   pub atom : AtomIn in_book Q i
   pub rule : RuleIn B p
-  pub left_in : LeftIn A
-  pub few : get_or A 0 0 ≤ 8
+  pub few : length A ≤ 8
   pub size : length table ≡ 96
   pub classes : ClassesFit table
   pub small : d ≤ p.heads
 
 -- the atoms left and the classes, and whether there are any, with one digit more
-pub record DigitPut (Q B : List ℕ) (p : Parts) (i d : ℕ) (A table : List ℕ) (ok : Bool) (A' table' : List ℕ) : Type 0 where
-  pub leaves : A' ≡ held_in stored record_room (question_of stored A ++ left (d ∷ []) (atom_at stored Q i ∷ []))
+pub record DigitPut (Q B : List ℕ) (p : Parts) (i d : ℕ) (A : Question) (table : List ℕ) (ok : Bool) (A' : Question)
+    (table' : List ℕ) : Type 0 where
+  pub leaves : A' ≡ A ++ left (d ∷ []) (atom_at stored Q i ∷ [])
   pub meets : merged ok table'
       ≡ unify_table (pairing (d ∷ []) (atom_at stored Q i ∷ []) (move 48 (rule_of B p)).head) (classes_of table)
   pub classes : ok ≡ true → ClassesFit table'
-
--- the atoms left, with those of Q after the first p that no atom of H can meet
-pub record UnmetLeft (H Q : Question) (p : ℕ) (A A' : List ℕ) : Type 0 where
-  pub left_in : LeftIn A'
-  pub is : question_of stored A' ≡ question_of stored A ++ unmet H (drop p Q)

@@ -1,11 +1,11 @@
 -- What the lister is asked and what it answers, as the code holds it. The contract of `next` needs `FoundIs`
 -- and what is asked of the rule and the question; the others are the functions' own.
-use Rattle.std.specs.Prelude.{◌≡◌, Bool, true, List, ℕ, suc, ◌+◌, ◌*◌, ◌≤◌, ◌<◌, T, length, get_or, Some, None}
+use Rattle.std.specs.Prelude.{◌≡◌, Bool, true, List, ℕ, suc, ◌+◌, ◌*◌, ◌≤◌, ◌<◌, length, get_or, Some, None}
 use Rattle.std.specs.Prelude.{Option as Answer}
 use Rattle.std.proofs.Math.Option.{Option, none, some}
 use Rattle.covering.specs.Lists.{◌∈◌}
-use Rattle.covering.specs.Term.{Term, Question}
-use Rattle.covering.specs.Record.{stored, question_of, are_atoms, TermFits, Fits}
+use Rattle.covering.specs.Term.{Term, Atom, Question}
+use Rattle.covering.specs.Record.{stored, AtomFits, TermFits}
 use Rattle.covering.specs.Buffer.{held_in, AtomsIn, record_room}
 use Rattle.book.specs.declared.Parts.{Parts}
 use Rattle.lister.specs.Counts.{most_choices}
@@ -41,25 +41,13 @@ pub record QuestionIn (Q : List ℕ) : Type 0 where
   pub atoms : AtomsIn in_book Q 1 (get_or Q 0 0)
   pub few : get_or Q 0 0 ≤ 9
 
--- the atoms left so far, a record under construction
-pub record LeftIn (A : List ℕ) : Type 0 where
-  pub holds : A ≡ held_in stored record_room (question_of stored A)
-  pub atoms : AtomsIn in_book A 1 (get_or A 0 0)
+-- the atoms left so far are sound atoms, as the question's are
+pub record LeftIn (A : Question) : Type 0 where
+  pub each : (a : Atom) → a ∈ A → AtomFits in_book a
 
 -- what stands for a class fits a record
 abbrev pub ClassesFit : List ℕ → Type 0
 ClassesFit table = (t : Term) → t ∈ classes_of table → TermFits stored t
-
--- a record under construction, with room for n atoms more
-pub record Filling (A : List ℕ) (n : ℕ) : Type 0 where
-  pub holds : A ≡ held_in stored record_room (question_of stored A)
-  pub atoms : T (are_atoms stored A 1 (get_or A 0 0))
-  pub room : get_or A 0 0 + n ≤ 12
-
--- a record of 85 bytes, of a question that fits one
-pub record Written (X : Question) (R : List ℕ) : Type 0 where
-  pub bytes : R ≡ held_in stored record_room X
-  pub fits : Fits stored X
 
 -- what stands for the rule's variables, moved down again
 pub record UpperHalf (table upper : List ℕ) : Type 0 where
@@ -70,12 +58,12 @@ pub record UpperHalf (table upper : List ℕ) : Type 0 where
 -- what the builder is given: the `more` atoms of Q from i on are to get a digit; the choice's number so far; whether
 -- some atom was sent; the atoms left and the classes so far. There is room: nine atoms in all, and one less once one
 -- was sent.
-pub record Asks (Q B : List ℕ) (p : Parts) (i more number : ℕ) (sent : Bool) (A table : List ℕ) : Type 0 where
+pub record Asks (Q B : List ℕ) (p : Parts) (i more number : ℕ) (sent : Bool) (A : Question) (table : List ℕ) : Type 0 where
   pub atoms : AtomsIn in_book Q i more
   pub rule : RuleIn B p
   pub left : LeftIn A
-  pub few : get_or A 0 0 + more ≤ 9
-  pub fewer : sent ≡ true → get_or A 0 0 + more ≤ 8
+  pub few : length A + more ≤ 9
+  pub fewer : sent ≡ true → length A + more ≤ 8
   pub small : suc number * count p.heads more ≤ most_choices
   pub size : length table ≡ 96
   pub classes : ClassesFit table

@@ -1,7 +1,7 @@
 // What a search asks, which stays as it is from digit to digit, and what is asked of a prefix of a choice: whether it can
 // still be valid.
 ghost use Rattle.std.specs.Prelude.{◌≡◌, true, false, ◌+◌, ◌*◌, ◌-◌, ◌≤◌, ◌<◌, get_or};
-ghost use Rattle.covering.specs.Record.{stored, atoms_at, question_of};
+ghost use Rattle.covering.specs.Record.{stored, atoms_at};
 ghost use Rattle.unification.specs.Step.{move, valid};
 ghost use Rattle.lister.specs.Counts.{CountsFor};
 ghost use Rattle.unify.specs.Table.{tabled};
@@ -13,7 +13,7 @@ ghost use Rattle.lister.specs.Listing.{RuleIn, QuestionIn, LeftIn};
 
 use crate::leaving::put_left;
 use covering::RECORD;
-use forming::no_atoms;
+use forming::Held;
 use unify::{Rule, is_valid, some_stuck};
 
 // The question, the rule, how many choices there are for each number of atoms, whether the rule has existential
@@ -33,18 +33,18 @@ pub struct Asked<'a> {
 
 // Whether a prefix with these left atoms and classes is valid. A rule without existential variables has only valid
 // choices, so that nothing is tested.
-pub fn are_valid(asked: &Asked<'_>, left: &[u8; RECORD], table: &[u8; 96]) -> bool
+pub fn are_valid(asked: &Asked<'_>, left: &Held, table: &[u8; 96]) -> bool
     requires { LeftIn left.now }
     ensures { result
         ≡ valid
         (tabled (classes_of table.now))
-        (question_of stored left.now)
+        left.now
         (move 48 (rule_of asked.now.rule.book.now asked.now.rule.parts)) }
 {
     if !asked.unknowns {
         return true;
     }
-    is_valid(left, &asked.rule, table)
+    is_valid(&left.bytes, &asked.rule, table)
 }
 
 // Whether one of the n atoms after those passed can get no digit any more. With fewer than three it costs more to ask
@@ -73,14 +73,14 @@ pub fn can_be_valid(asked: &Asked<'_>, n: usize, more: usize, sent: usize, table
         → Hopeless
         (tabled (classes_of table.now))
         (move 48 (rule_of asked.now.rule.book.now asked.now.rule.parts))
-        (question_of stored (left_by asked.now.question.now n sent))
+        (left_by asked.now.question.now n sent)
         (atoms_at stored asked.now.question.now (1 + (n + 1) * 7) (more - 1)) }
 {
     if more == 1 {
         return true;
     }
     if asked.unknowns {
-        let mut left = no_atoms();
+        let mut left = Held::empty();
         put_left(&mut left, asked.question, n, sent);
         if !are_valid(asked, &left, table) {
             return false;

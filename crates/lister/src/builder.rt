@@ -2,7 +2,7 @@
 // The classes are lent; a digit that changes them copies them, so that the next digit finds them as they were. Which atoms
 // are sent is a bit for each. So an atom that is left costs nothing: the left ones are written once they are asked for. The
 // room for the rewriting is lent too, and written once one is found.
-ghost use Rattle.std.specs.Prelude.{◌≡◌, ◌+◌, ◌*◌, ◌-◌, ◌≤◌, ◌<◌, get_or};
+ghost use Rattle.std.specs.Prelude.{◌≡◌, ◌+◌, ◌*◌, ◌-◌, ◌≤◌, ◌<◌, length, get_or};
 ghost use Rattle.covering.specs.Record.{stored, atom_at, atoms_at, question_of};
 ghost use Rattle.unification.specs.Choice.{count};
 ghost use Rattle.unification.specs.Step.{move, judge, next as next_of};
@@ -19,7 +19,7 @@ use crate::leaving::put_left;
 use crate::powers::choice_counts;
 use crate::writing::put_rewriting;
 use covering::RECORD;
-use forming::no_atoms;
+use forming::Held;
 use unify::{Rule, all_apart, join_atoms};
 
 // What a whole choice of n atoms gives, if it is valid and not before the start.
@@ -32,12 +32,12 @@ fn whole_choice(
     out: &mut [u8; RECORD],
 ) -> Option<usize>
     requires { (n ≤ get_or asked.now.question.now 0 0)
-        × (get_or (left_by asked.now.question.now n sent) 0 0 ≤ 8)
+        × (length (left_by asked.now.question.now n sent) ≤ 8)
         × ClassesFit table.now }
     ensures { FoundIs
         (since asked.now.from number
         (judge
-        (question_of stored (left_by asked.now.question.now n sent))
+        (left_by asked.now.question.now n sent)
         (move 48 (rule_of asked.now.rule.book.now asked.now.rule.parts))
         (tabled (classes_of table.now))))
         out.old
@@ -47,7 +47,7 @@ fn whole_choice(
     if number < asked.from {
         return None;
     }
-    let mut left = no_atoms();
+    let mut left = Held::empty();
     put_left(&mut left, asked.question, n, sent);
     if !are_valid(asked, &left, table) {
         return None;
@@ -81,7 +81,7 @@ fn build(
         (first
         (table_builder 48 (rule_of asked.now.rule.book.now asked.now.rule.parts) asked.now.from)
         number
-        (question_of stored (left_by asked.now.question.now passed sent))
+        (left_by asked.now.question.now passed sent)
         (any_sent sent)
         (atoms_at stored asked.now.question.now (1 + passed * 7) more)
         (classes_of table.now))
@@ -137,7 +137,7 @@ fn try_digit(
         (first_by_digit
         (table_builder 48 (rule_of asked.now.rule.book.now asked.now.rule.parts) asked.now.from)
         number
-        (question_of stored (left_by asked.now.question.now passed sent))
+        (left_by asked.now.question.now passed sent)
         (any_sent sent)
         (atom_at stored asked.now.question.now (1 + passed * 7))
         (atoms_at stored asked.now.question.now (1 + passed * 7 + 7) (more - 1))

@@ -1,17 +1,16 @@
 // The first digits of a choice: what they settle of every choice that begins with them, and where these end.
-ghost use Rattle.std.specs.Prelude.{◌≡◌, not, ◌+◌, ◌*◌, ◌-◌, ◌/◌, ◌≤◌, ◌<◌, eqb, length, get_or};
+ghost use Rattle.std.specs.Prelude.{◌≡◌, not, ◌++◌, ◌+◌, ◌*◌, ◌-◌, ◌/◌, ◌≤◌, ◌<◌, eqb, length, get_or, drop};
 ghost use Rattle.covering.specs.Lists.{any};
 ghost use Rattle.covering.specs.Record.{stored, question_of};
 ghost use Rattle.unification.specs.Choice.{count};
 ghost use Rattle.unify.specs.InBytes.{rule_of};
 ghost use Rattle.lister.specs.Counts.{most_choices};
-ghost use Rattle.lister.specs.Listing.{RuleIn, QuestionIn, LeftIn};
-ghost use Rattle.lister.specs.FirstDigits.{PrefixIs, DigitFor, DigitPut, UnmetLeft};
+ghost use Rattle.lister.specs.Listing.{RuleIn, QuestionIn};
+ghost use Rattle.lister.specs.FirstDigits.{unmet, PrefixIs, DigitFor, DigitPut};
 
 use crate::powers::choice_count;
 use crate::writing::replaced;
-use covering::RECORD;
-use forming::{no_atoms, put_atom};
+use forming::{Held, put_atom};
 use unify::{Rule, all_apart, join_atoms};
 
 // Gives the question atom at i its digit: leaves it, or puts it on that head atom in the classes. Whether it can be put
@@ -21,7 +20,7 @@ fn put_digit(
     rule: &Rule<'_>,
     i: usize,
     d: usize,
-    left: &mut [u8; RECORD],
+    left: &mut Held,
     table: &mut [u8; 96],
 ) -> bool
     requires { DigitFor question.now rule.now.book.now rule.now.parts i d left.old table.old }
@@ -53,18 +52,13 @@ fn is_unmet(rule: &Rule<'_>, relation: u8) -> bool
 }
 
 // Leaves those of the atoms after the first p that no head atom can meet: every choice that is valid leaves them.
-fn leave_unmet(question: &[u8], rule: &Rule<'_>, p: usize, left: &mut [u8; RECORD])
+fn leave_unmet(question: &[u8], rule: &Rule<'_>, p: usize, left: &mut Held)
     requires { QuestionIn question.now
         × RuleIn rule.now.book.now rule.now.parts
-        × LeftIn left.old
-        × (get_or left.old 0 0 ≤ p)
+        × (length left.old ≤ p)
         × (p ≤ get_or question.now 0 0) }
-    ensures { UnmetLeft
-        (rule_of rule.now.book.now rule.now.parts).head
-        (question_of stored question.now)
-        p
-        left.old
-        left.new }
+    ensures { left.new
+        ≡ left.old ++ unmet (rule_of rule.now.book.now rule.now.parts).head (drop p (question_of stored question.now)) }
 {
     let n = usize::from(question[0]);
     for j in p..n {
@@ -78,12 +72,7 @@ fn leave_unmet(question: &[u8], rule: &Rule<'_>, p: usize, left: &mut [u8; RECOR
 
 // What the first p digits of a choice settle: the atoms that they leave, those after them that no head atom can meet, and
 // then the body, each class of the digits replaced by what stands for it. It is not in form: covering needs none.
-pub fn prefix_rewriting(
-    question: &[u8],
-    rule: &Rule<'_>,
-    choice: usize,
-    p: usize,
-) -> Option<[u8; RECORD]>
+pub fn prefix_rewriting(question: &[u8], rule: &Rule<'_>, choice: usize, p: usize) -> Option<Held>
     requires { QuestionIn question.now
         × RuleIn rule.now.book.now rule.now.parts
         × (p < get_or question.now 0 0)
@@ -96,7 +85,7 @@ pub fn prefix_rewriting(
         result }
 {
     let n = usize::from(question[0]);
-    let mut left = no_atoms();
+    let mut left = Held::empty();
     let mut table = all_apart();
     let mut rest = choice;
     for j in 0..p {
@@ -108,7 +97,7 @@ pub fn prefix_rewriting(
         rest %= each;
     }
     leave_unmet(question, rule, p, &mut left);
-    if 8 < left[0] {
+    if 8 < left.lent().count() {
         return None;
     }
     Some(replaced(&left, rule, &table))

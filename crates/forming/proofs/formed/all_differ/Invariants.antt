@@ -3,7 +3,6 @@
 use mathlib.Core.Path.{◌≡◌}
 use lib.ListN.{get_or}
 use Rattle.covering.specs.Form.{dedup}
-use Rattle.covering.specs.Record.{stored, question_of}
 use Rattle.forming.proofs.Passing.{left}
 use Rattle.forming.proofs.formed.all_differ.Given as goal
 

@@ -1,7 +1,7 @@
 -- `forming::formed::drop_equal` meets its contract. The loop's invariant: dropping equal atoms is adding those from
 -- here on to those kept, each unless it is there, and there are no more than twelve in all.
 use native.Mathlib.Omega.{arith}
-use mathlib.Core.Path.{◌≡◌, sym, ap, ◌∙◌}
+use mathlib.Core.Path.{sym, ap, ◌∙◌}
 use mathlib.Core.List.{[]}
 use Prim.Native.Nat.{◌<◌}
 use lib.ListN.{get_or}

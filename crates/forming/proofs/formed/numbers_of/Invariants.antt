@@ -6,7 +6,6 @@ use Prim.Native.Nat.{ℕ, ◌+◌, ◌*◌, ◌-◌, ◌≤◌}
 use lib.ListN.{get_or}
 use Rattle.covering.specs.Term.{terms}
 use Rattle.covering.specs.Form.{firsts}
-use Rattle.covering.specs.Record.{stored, question_of}
 use Rattle.forming.specs.Building.{all_seen, NumberTable}
 use Rattle.forming.proofs.Passing.{left}
 use Rattle.forming.proofs.formed.numbers_of.Given as goal

@@ -1,7 +1,7 @@
 -- `forming::formed::renumbered` meets its contract. The loop's invariant: the atoms passed are put renumbered, and with
 -- those from here on they are no more than twelve.
 use native.Mathlib.Omega.{arith}
-use mathlib.Core.Path.{◌≡◌, refl, sym, ap, ap₂, ◌∙◌}
+use mathlib.Core.Path.{refl, sym, ap, ap₂, ◌∙◌}
 use mathlib.Core.List.{[], ◌∷◌, ◌++◌}
 use Prim.Native.Nat.{◌<◌}
 use lib.ListN.{length, get_or, length-append}

@@ -4,7 +4,6 @@ use native.Mathlib.Omega.{arith}
 use mathlib.Core.Path.{sym, ◌∙◌, ap, subst}
 use mathlib.Core.Bool.{true≢false}
 use mathlib.Core.Logic.{inl, inr}
-use Rattle.covering.specs.Record.{question_of, stored}
 use Rattle.unification.specs.Step.{move, valid}
 use Rattle.unify.specs.Table.{tabled}
 use Rattle.unify.specs.InBytes.{rule_of, classes_of}
@@ -16,7 +15,7 @@ pub returns-then-more-eq1 : goal.returns-then-more-eq1
 returns-then-more-eq1 c = λ told. absurd (true≢false told)
 
 pub put_left-requires : goal.put_left-requires
-put_left-requires c = (c.no_atoms-left.ensures, c.args.asked.now.question_in, omega arith)
+put_left-requires c = (c.empty-left.ensures, c.args.asked.now.question_in, omega arith)
 
 pub are_valid-requires : goal.are_valid-requires
 are_valid-requires c =
@@ -29,7 +28,7 @@ returns-then-not-are_valid c =
     λ told. let a = c.args in
     let r = move 48 (rule_of a.asked.now.rule.book.now a.asked.now.rule.parts) in
     inl
-    (ap (λ A. valid (tabled (classes_of a.table.now)) (question_of stored A) r) (sym c.put_left.ensures)
+    (ap (λ A. valid (tabled (classes_of a.table.now)) A r) (sym c.put_left.ensures)
     ∙ sym c.are_valid.ensures
     ∙ c.if-not-are_valid.true)
 

@@ -2,10 +2,10 @@
 -- of the choice.
 use native.Mathlib.Omega.{arith}
 use mathlib.Core.Path.{refl, sym, ◌∙◌, ap, subst}
-use lib.ListN.{get_or}
+use lib.ListN.{length}
 use Prim.Native.Nat.{◌≤◌}
 use Rattle.covering.specs.Form.{form}
-use Rattle.covering.specs.Record.{question_of, stored}
+use Rattle.covering.specs.Record.{stored}
 use Rattle.covering.specs.Buffer.{held_in, record_room}
 use Rattle.unify.specs.InBytes.{rule_of, classes_of}
 use Rattle.lister.specs.Leaving.{left_by}
@@ -22,12 +22,12 @@ pub returns-then-number-asked : goal.returns-then-number-asked
 returns-then-number-asked c =
     let a = c.args in
     let r = move 48 (rule_of a.asked.now.rule.book.now a.asked.now.rule.parts) in
-    let A = question_of stored (left_by a.asked.now.question.now a.n a.sent) in
+    let A = left_by a.asked.now.question.now a.n a.sent in
     told_none
     (since_early a.asked.now.from a.number (judge A r (tabled (classes_of a.table.now))) (omega (arith, c.if-number-asked.true)))
 
 pub put_left-requires : goal.put_left-requires
-put_left-requires c = (c.no_atoms-left.ensures, c.args.asked.now.question_in, c.requires.0)
+put_left-requires c = (c.empty-left.ensures, c.args.asked.now.question_in, c.requires.0)
 
 pub are_valid-requires : goal.are_valid-requires
 are_valid-requires c =
@@ -42,8 +42,8 @@ returns-then-not-are_valid c =
     let σ = tabled (classes_of a.table.now) in
     let A = left_by a.asked.now.question.now a.n a.sent in
     told_none
-    (judged_no a.asked.now.from a.number (question_of stored A) r σ
-    (ap (λ L. valid σ (question_of stored L) r) (sym c.put_left.ensures)
+    (judged_no a.asked.now.from a.number A r σ
+    (ap (λ L. valid σ L r) (sym c.put_left.ensures)
     ∙ sym c.are_valid.ensures
     ∙ c.if-not-are_valid.true))
 
@@ -52,7 +52,7 @@ put_rewriting-requires c =
     let a = c.args in
     let sound = (left_sound a.asked.now.question.now a.asked.now.question_in a.n a.sent c.requires.0).0 in (
       subst LeftIn (sym c.put_left.ensures) sound,
-      subst (λ A. get_or A 0 0 ≤ 8) (sym c.put_left.ensures) c.requires.1,
+      subst (λ A. length A ≤ 8) (sym c.put_left.ensures) c.requires.1,
       a.asked.now.rule_in,
       c.requires.2,
     )
@@ -64,12 +64,12 @@ returns c =
     let σ = tabled (classes_of a.table.now) in
     let A = left_by a.asked.now.question.now a.n a.sent in
     let yes =
-    ap (λ L. valid σ (question_of stored L) r) (sym c.put_left.ensures)
+    ap (λ L. valid σ L r) (sym c.put_left.ensures)
     ∙ sym c.are_valid.ensures
     ∙ c.if-not-are_valid.false in
-    told_same (sym (judged_yes a.asked.now.from a.number (question_of stored A) r σ (omega (arith, c.if-number-asked.false)) yes))
+    told_same (sym (judged_yes a.asked.now.from a.number A r σ (omega (arith, c.if-number-asked.false)) yes))
     (record {
       answer = refl;
       room = c.put_rewriting.ensures
-          ∙ ap (λ L. held_in stored record_room (form (rewriting_of σ (question_of stored L) r))) c.put_left.ensures;
+          ∙ ap (λ L. held_in stored record_room (form (rewriting_of σ L r))) c.put_left.ensures;
     })

@@ -2,9 +2,8 @@
 -- The measure is the number of atoms.
 use native.Mathlib.Omega.{arith}
 use mathlib.Core.Path.{sym, ◌∙◌, ap, subst}
-use Prim.Native.Nat.{◌-◌, ◌/◌}
-use Rattle.covering.specs.Record.{stored}
-use Rattle.covering.specs.Buffer.{RoomLeft, record_room}
+use Prim.Native.Nat.{◌-◌, ◌/◌, ◌<◌}
+use lib.ListN.{length}
 use Rattle.lister.proofs.LeftByBits.{none_left, last_sent, last_left, room_for, with_atom}
 use Rattle.lister.proofs.leaving.+put_left.Goals as goal
 
@@ -29,7 +28,7 @@ pub put_atom-requires : goal.put_atom-requires
 put_atom-requires t c =
     let a = c.args in
     let r = room_for a.question.now c.requires.1 (a.n - 1) (a.sent / 2) (omega (arith, c.requires.2)) in
-    (subst (RoomLeft stored record_room) (sym c.put_left.ensures) r.0, r.1)
+    (subst (λ A. length A < 12) (sym c.put_left.ensures) r.0, r.1)
 
 pub returns : goal.returns
 returns t c =

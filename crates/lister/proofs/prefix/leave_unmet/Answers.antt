@@ -2,7 +2,6 @@
 -- that no head atom can meet, are what is to be left.
 use native.Mathlib.Omega.{arith}
 use mathlib.Core.Path.{refl, sym, ◌∙◌, subst}
-use Rattle.lister.proofs.LeftAtoms.{left_room}
 use Rattle.lister.proofs.Unmet.{atom_in, Leaving, leaving_more, leaving_same, leaving_done}
 use Rattle.lister.proofs.prefix.leave_unmet.Goals as goal
 use Rattle.lister.proofs.prefix.leave_unmet.Goals.{then-unmet, else-unmet}
@@ -11,7 +10,7 @@ pub bounds-question-0 : goal.bounds-question-0
 bounds-question-0 c = omega (arith, c.requires.0.atoms.fits)
 
 pub loop-j-init : goal.loop-j-init
-loop-j-init c = record { inside = c.requires.4; few = c.requires.3; left_in = c.requires.2; is = refl }
+loop-j-init c = record { inside = c.requires.3; few = c.requires.2; is = refl }
 
 pub overflow_mul-at : goal.overflow_mul-at
 overflow_mul-at c = omega (arith, c.from-n.ensures, c.requires.0.few)
@@ -24,7 +23,7 @@ bounds-question-at c = omega (arith, c.from-n.ensures, c.requires.0.atoms.fits)
 
 pub put_atom-requires : goal.put_atom-requires
 put_atom-requires c = (
-  left_room _ c.loop-j.invariant.left_in (omega (arith, c.from-n.ensures, c.loop-j.invariant.few, c.requires.0.few)),
+  omega (arith, c.from-n.ensures, c.loop-j.invariant.few, c.requires.0.few),
   atom_in c.requires.0 (omega (arith, c.from-n.ensures)),
 )
 
@@ -35,15 +34,11 @@ loop-j-preserved c =
     elim c.if-unmet.branch [
       | then-unmet w ↦
           subst (Leaving _ _ _ _) (sym w.left-is)
-          (leaving_more c.requires.0 l (omega (arith, c.from-n.ensures)) (sym u ∙ w.if-unmet.true) w.put_atom.ensures)
+          (leaving_more l (omega (arith, c.from-n.ensures)) (sym u ∙ w.if-unmet.true) w.put_atom.ensures)
       | else-unmet w ↦
           subst (Leaving _ _ _ _) (sym w.left-is)
-          (leaving_same c.requires.0 l (omega (arith, c.from-n.ensures)) (sym u ∙ w.if-unmet.false))
+          (leaving_same l (omega (arith, c.from-n.ensures)) (sym u ∙ w.if-unmet.false))
     ]
 
 pub returns : goal.returns
-returns c =
-    record {
-      left_in = c.loop-j.invariant.left_in;
-      is = leaving_done c.requires.0 c.loop-j.invariant (omega (arith, c.from-n.ensures, c.requires.4));
-    }
+returns c = leaving_done c.loop-j.invariant (omega (arith, c.from-n.ensures, c.requires.3))

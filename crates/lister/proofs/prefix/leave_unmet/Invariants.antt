@@ -12,4 +12,4 @@ abbrev pub invariant-loop-j : goal.invariant-loop-j
 invariant-loop-j l =
     let H = (rule_of l.rule.book.now l.rule.parts).head in
     let Q = question_of stored l.question in
-    Leaving H (question_of stored l.initial.left ++ unmet H (drop l.p Q)) l.question l.j l.left
+    Leaving H (l.initial.left ++ unmet H (drop l.p Q)) l.question l.j l.left

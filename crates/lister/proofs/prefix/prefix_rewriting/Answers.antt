@@ -1,18 +1,19 @@
 -- `lister::prefix::prefix_rewriting` meets its contract. The loop's invariant (`Begun`): the atoms left and the classes
 -- are those of the first j digits, and what is left of the number is the number of the others.
 use native.Mathlib.Omega.{arith}
-use mathlib.Core.Path.{◌≡◌, subst}
+use mathlib.Core.Path.{◌≡◌, ap, subst}
 use Prim.Native.Nat.{◌-◌}
+use lib.ListN.{length}
 use Rattle.unification.proofs.Prefix.{count_some}
 use Rattle.lister.proofs.FirstDigits.{Begun, begun_first, begun_next, begun_stops, digit_for}
-use Rattle.lister.proofs.WhatIsSettled.{prefix_none, prefix_many, prefix_some}
+use Rattle.lister.proofs.WhatIsSettled.{prefix_none, settled_in, prefix_many, prefix_some}
 use Rattle.lister.proofs.prefix.prefix_rewriting.Goals as goal
 
 pub bounds-question-0 : goal.bounds-question-0
 bounds-question-0 c = omega (arith, c.requires.0.atoms.fits)
 
 pub loop-j-init : goal.loop-j-init
-loop-j-init c = begun_first c.requires.3 c.no_atoms-left.ensures c.all_apart-table.ensures
+loop-j-init c = begun_first c.requires.3 c.empty-left.ensures c.all_apart-table.ensures
 
 pub overflow_sub-n : goal.overflow_sub-n
 overflow_sub-n c = omega (arith, c.from-n.ensures, c.requires.2)
@@ -54,23 +55,28 @@ loop-j-preserved c =
 pub leave_unmet-requires : goal.leave_unmet-requires
 leave_unmet-requires c =
     let now = c.loop-j.invariant in
-    (c.requires.0, c.requires.1, now.left_in, omega (arith, now.few), omega (arith, c.requires.2))
+    (c.requires.0, c.requires.1, omega (arith, now.few), omega (arith, c.requires.2))
 
-pub returns-then-left-gt8 : goal.returns-then-left-gt8
-returns-then-left-gt8 c =
+pub returns-then-count-gt8 : goal.returns-then-count-gt8
+returns-then-count-gt8 c =
     let a = c.args in
     let l = c.loop-j in
     let all : l.j ≡ a.p = omega arith in
     let begun = subst (λ n. Begun a.question.now a.rule.now.book.now a.rule.now.parts a.choice n l.rest l.left l.table) all l.invariant in
-    prefix_many _ _ _ _ c.requires.1 begun c.leave_unmet.ensures c.if-left-gt8.true
+    prefix_many _ _ _ _ c.requires.0 c.requires.1 begun c.leave_unmet.ensures
+    (omega (arith, c.if-count-gt8.true, c.count.ensures, ap length c.lent.ensures))
 
 pub replaced-requires : goal.replaced-requires
-replaced-requires c = (
-  c.leave_unmet.ensures.left_in,
-  omega (arith, c.if-left-gt8.false),
-  c.requires.1,
-  c.loop-j.invariant.fit,
-)
+replaced-requires c =
+    let a = c.args in
+    let l = c.loop-j in
+    let all : l.j ≡ a.p = omega arith in
+    let begun = subst (λ n. Begun a.question.now a.rule.now.book.now a.rule.now.parts a.choice n l.rest l.left l.table) all l.invariant in (
+      settled_in _ _ _ _ c.requires.0 c.requires.1 begun c.leave_unmet.ensures,
+      omega (arith, c.if-count-gt8.false, c.count.ensures, ap length c.lent.ensures),
+      c.requires.1,
+      l.invariant.fit,
+    )
 
 pub returns : goal.returns
 returns c =
@@ -78,5 +84,5 @@ returns c =
     let l = c.loop-j in
     let all : l.j ≡ a.p = omega arith in
     let begun = subst (λ n. Begun a.question.now a.rule.now.book.now a.rule.now.parts a.choice n l.rest l.left l.table) all l.invariant in
-    prefix_some _ _ _ _ c.requires.1 begun c.leave_unmet.ensures (omega (arith, c.if-left-gt8.false))
-    c.replaced.result c.replaced.ensures
+    prefix_some _ _ _ _ c.requires.0 c.requires.1 begun c.leave_unmet.ensures
+    (omega (arith, c.if-count-gt8.false, c.count.ensures, ap length c.lent.ensures)) c.replaced.result c.replaced.ensures

@@ -1,38 +1,49 @@
 -- `lister::writing::replaced` meets its contract: the left atoms by the classes, then the body by their upper half.
 use borrow.Author.Rules.{rules}
 use native.Mathlib.Omega.{arith}
-use lib.ListN.{length}
-use mathlib.Core.Path.{◌≡◌}
-use Rattle.lister.proofs.RewritingBytes.{filling_none, left_filling, whole_written}
+use mathlib.Core.Path.{◌≡◌, refl, sym, ap, ◌∙◌, subst}
+use mathlib.Core.List.{◌++◌}
+use lib.ListN.{length, get_or}
+use Rattle.covering.specs.Term.{on_question}
+use Rattle.covering.specs.Record.{stored, atoms_at}
+use Rattle.covering.proofs.Lengths.{question_count}
+use Rattle.covering.proofs.Places.{question_at_lem}
+use Rattle.forming.specs.Building.{sub_of}
+use Rattle.lister.specs.Listing.{LeftIn}
 use Rattle.lister.proofs.Halves.{upper_fits}
+use Rattle.lister.proofs.LeftAtoms.{left_bytes}
+use Rattle.lister.proofs.RewritingBytes.{put_count, whole_question}
 use Rattle.lister.proofs.writing.replaced.Goals as goal
 
 pub put_all-requires : goal.put_all-requires
-put_all-requires c = (
-  filling_none _ _ c.no_atoms-whole.ensures (omega (arith, c.from-n.ensures, c.requires.1)),
-  rw c.from-n.ensures c.requires.0.atoms,
-  c.requires.3,
-)
+put_all-requires c =
+    let B = c.left.inside.bytes in
+    rw (c.empty-whole.ensures, c.from-n.ensures) (
+      omega (arith, question_count stored B, ap length c.left.view_is, c.requires.1),
+      left_bytes B c.left.invariant.sound c.left.invariant.rest (subst LeftIn (sym c.left.view_is) c.requires.0),
+      c.requires.3,
+    )
 
 pub put_all-requires-2 : goal.put_all-requires-2
 put_all-requires-2 c =
-    let u = c.upper_half-upper in
-    let a = c.args in
-    let r = a.rule.now in
-    let long : length a.table.now ≡ 96 = search rules in
-    let pre = c.requires in (
-      left_filling a.left.now r.book.now a.table.now u.result r.parts pre.0 pre.1 pre.2 pre.3 long
-          u.ensures _ c.put_all.new.kept c.put_all.new.kept c.no_atoms-whole.ensures (rw c.from-n.ensures at c.put_all.ensures),
+    let B = c.left.inside.bytes in
+    let pre = c.requires in
+    let long : length c.args.table.now ≡ 96 = search rules in
+    let first = rw (c.empty-whole.ensures, c.from-n.ensures) at c.put_all.ensures in
+    let count = put_count (sub_of c.args.table.now) B 1 (get_or B 0 0) in (
+      omega (arith, ap length first, count, question_count stored B, ap length c.left.view_is, pre.1, pre.2.few_body),
       pre.2.body,
-      upper_fits _ _ pre.3 long u.ensures,
+      upper_fits _ _ pre.3 long c.upper_half-upper.ensures,
     )
 
 pub returns : goal.returns
 returns c =
+    let B = c.left.inside.bytes in
     let a = c.args in
     let r = a.rule.now in
     let long : length a.table.now ≡ 96 = search rules in
-    let pre = c.requires in
-    whole_written a.left.now r.book.now a.table.now c.upper_half-upper.result r.parts pre.0 pre.1
-    pre.2 pre.3 long c.upper_half-upper.ensures _ _ _ c.no_atoms-whole.ensures (rw c.from-n.ensures at c.put_all.ensures)
-    c.put_all-2.ensures
+    let first = rw (c.empty-whole.ensures, c.from-n.ensures) at c.put_all.ensures in
+    let body = on_question (sub_of c.upper_half-upper.result) (atoms_at stored r.book.now r.parts.body r.parts.bodies) in
+    whole_question _ B r.book.now a.table.now _ r.parts c.requires.0
+    (sym c.left.view_is ∙ question_at_lem stored B refl) c.requires.2 long c.upper_half-upper.ensures _
+    (c.put_all-2.ensures ∙ ap (λ A. A ++ body) first)
