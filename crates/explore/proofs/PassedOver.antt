@@ -15,12 +15,9 @@ use Rattle.covering.specs.Covers.{Covers}
 use Rattle.covering.specs.Lists.{◌∈◌, bind}
 use Rattle.covering.specs.Term.{Question, Sub, var}
 use Rattle.covering.specs.Search.{covers}
-use Rattle.covering.specs.Record.{stored, question_of, Fits, SoundRecord}
-use Rattle.covering.specs.Buffer.{held_in, record_room}
 use Rattle.covering.specs.Rule.{Rule}
 use Rattle.covering.proofs.Decides.{covers_decides}
 use Rattle.covering.proofs.Lists.{any_in, any_out}
-use Rattle.covering.proofs.Padded.{stored_question, stored_sound}
 use Rattle.covering.proofs.Tests.{true→T}
 use Rattle.unification.specs.Classes.{unify}
 use Rattle.unification.specs.Choice.{count, number, pairing}
@@ -36,7 +33,7 @@ pub goes_next : (r : Rule) (M : Question) (U : List Question) (c : ℕ) → Goes
 goes_next r M U c = record { later = omega arith; between = λ i P m l u. absurd (omega arith) }
 
 -- what the lister said of the first p digits
-module _ {r : Rule} {M : Question} {c p : ℕ} {x : Answer (List ℕ)} (i : PrefixIs r M c p x) where
+module _ {r : Rule} {M : Question} {c p : ℕ} {x : Answer Question} (i : PrefixIs r M c p x) where
   abbrev here : Option Question
   here = settled apart r M p i.choice
 
@@ -49,37 +46,22 @@ module _ {r : Rule} {M : Question} {c p : ℕ} {x : Answer (List ℕ)} (i : Pref
       go none y = refl
       go (some X) y = cc
 
-  -- they can, and this is the record of what they settle
-  module _ {R : List ℕ} (e : x ≡ Some R) where
-    record Recorded : Type 0 where
-      question : Question
-      is : here ≡ some question
-      bytes : R ≡ held_in stored record_room question
-      fits : Fits stored question
-
-    recorded : Recorded
-    recorded = go here refl i.is
+  -- they can, and this is what they settle
+  module _ {R : Question} (e : x ≡ Some R) where
+    settled_here : here ≡ some R
+    settled_here = go here refl i.is
       where
-        go : (o : Option Question) → here ≡ o → x ≡ settled_of o → Recorded
+        go : (o : Option Question) → here ≡ o → x ≡ settled_of o → here ≡ some R
         go none h y = cc
-        go (some X) h y = record { question = X; is = h; bytes = cc; fits = i.fits X h }
+        go (some X) h y = cc
 
-    pub settled_sound : SoundRecord stored R
-    settled_sound =
-        subst (SoundRecord stored) (sym recorded.bytes) (stored_sound recorded.question recorded.fits)
-
-    pub met_covered : (U : List Question) (ok : Bool) → ok ≡ covered covers (question_of stored R) U
-        → PrefixCovered r M U c p ok
+    pub met_covered : (U : List Question) (ok : Bool) → ok ≡ covered covers R U → PrefixCovered r M U c p ok
     met_covered U ok h =
         record {
           choice = i.choice;
           among = i.among;
           place = i.place;
-          is =
-              h
-              ∙ ap (λ (X : Question). covered covers X U)
-              (ap (question_of stored) recorded.bytes ∙ stored_question recorded.question recorded.fits)
-              ∙ ap (covers_settled U) (sym recorded.is);
+          is = h ∙ ap (covers_settled U) (sym settled_here);
         }
 
 pub covered_yes : {r : Rule} {M : Question} {U : List Question} {c p : ℕ} {ok : Bool} → ok ≡ true

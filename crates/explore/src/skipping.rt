@@ -45,7 +45,7 @@ fn prefix_covered(
     let Some(question) = settled else {
         return false;
     };
-    members.covers(&question)
+    members.covers(&question.bytes)
 }
 
 // How many digits the shortest prefix has that is asked, for n atoms: the table of choice counts ends at eight to come.

@@ -19,8 +19,10 @@ use super::rules::Rules;
 use super::taking_up::oldest;
 use admit::{Members, OUTPUT};
 use covering::RECORD;
+use forming::in_form;
 use forms::{BOOK, to_new};
 use reading::{Reason, Refused};
+use records::Record;
 use writing::put_union;
 
 // The form of the book's question.
@@ -29,9 +31,8 @@ fn first_member(book: &[u8]) -> [u8; RECORD]
     ensures { result ≡ held_in stored record_room (form (joined (book_of book.now).question)) }
 {
     let question = book::question(book);
-    let mut first = forming::no_atoms();
-    forming::in_form(&question, &mut first);
-    first
+    let first = in_form(&Record { bytes: &question });
+    first.bytes
 }
 
 // How many answer records the book's question has, and so each member.

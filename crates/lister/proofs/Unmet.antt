@@ -11,7 +11,7 @@ use lib.ListN.{length, get_or, drop, take, take-append-drop}
 use lib.Seq.{drop-cons, drop-length}
 use Rattle.covering.specs.Lists.{◌∈◌, any}
 use Rattle.covering.specs.Term.{Atom, Question}
-use Rattle.covering.specs.Record.{stored, atom_at, question_of}
+use Rattle.covering.specs.Record.{stored, atom_at, atoms_at, question_of}
 use Rattle.covering.specs.Buffer.{AtomIn}
 use Rattle.covering.proofs.Lengths.{question_count}
 use Rattle.covering.proofs.Lists.{keep_out, any_in}
