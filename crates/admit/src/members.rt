@@ -18,6 +18,13 @@ use std::marker::Model;
 // "More than 8 atoms".
 const ATOMS: u8 = 8;
 
+// Before the first member.
+const EMPTY: Extent = Extent {
+    len: FIRST,
+    count: 0,
+    front: 0,
+};
+
 // The members of the union, in order of arrival: their records stand in one array as they will be written, and beside it
 // there is a set of relations for each.
 #[derive(Drop)]
@@ -46,15 +53,18 @@ impl Members {
         requires { SoundRecord stored first.now × (length (question_of stored first.now) ≤ 9) }
         ensures { result ≡ alone (question_of stored first.now) }
     {
-        let mut work = [0u8; OUTPUT];
-        let len = append(&mut work, FIRST, first);
-        let sets = of_one(first);
-        let filled = Extent {
+        let mut members = Members {
+            work: [0u8; OUTPUT],
+            sets: of_one(first),
+            filled: EMPTY,
+        };
+        let len = append(&mut members.work, FIRST, first);
+        members.filled = Extent {
             len,
             count: 1,
             front: 0,
         };
-        Members { work, sets, filled }
+        members
     }
 
     // How many they are.
