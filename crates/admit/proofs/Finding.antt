@@ -189,11 +189,11 @@ module _ (P : Question) (W : List ℕ) (at i n : ℕ) where
   by_miss h e = by_next h ∙ else_none here _ e
 
 -- a member covers P exactly where the search ends before the last
-covering_before : (cov : Test) (P : Question) (U : List Question)
+pub covering_found : (cov : Test) (P : Question) (U : List Question)
     → covered cov P U ≡ ltb (before_covering cov P U) (length U)
 unfolding before_covering
-covering_before cov P [] = refl
-covering_before cov P (M ∷ U) = go (cov M P) (covering_before cov P U)
+covering_found cov P [] = refl
+covering_found cov P (M ∷ U) = go (cov M P) (covering_found cov P U)
   where
     go : (b : Bool) → covered cov P U ≡ ltb (before_covering cov P U) (length U)
         → (b || covered cov P U) ≡ ltb (cond b 0 (suc (before_covering cov P U))) (suc (length U))
@@ -201,8 +201,8 @@ covering_before cov P (M ∷ U) = go (cov M P) (covering_before cov P U)
     go false e = e ∙ sym (leb-suc-suc (suc (before_covering cov P U)) (length U))
 
 -- and where the number of one is found
-covering_found : (cov : Test) (P : Question) (U : List Question) → covered cov P U ≡ found (first_covering cov P U)
-covering_found cov P U = covering_before cov P U ∙ go (ltb (before_covering cov P U) (length U)) (before_covering cov P U)
+number_found : (cov : Test) (P : Question) (U : List Question) → covered cov P U ≡ found (first_covering cov P U)
+number_found cov P U = covering_found cov P U ∙ go (ltb (before_covering cov P U) (length U)) (before_covering cov P U)
   where
     go : (b : Bool) (n : ℕ) → b ≡ found (cond b (Some n) None)
     go true n = refl
@@ -213,7 +213,7 @@ pub covered_is : (W F : List ℕ) (P : Question) {n : ℕ} {r : Maybe ℕ} {b : 
     → r ≡ first_covering covers P (held_from W first_at (length F)) → b ≡ found r
     → b ≡ covered covers P (held_from W first_at n)
 covered_is W F P long first is =
-    is ∙ ap found first ∙ sym (covering_found covers P (held_from W first_at (length F)))
+    is ∙ ap found first ∙ sym (number_found covers P (held_from W first_at (length F)))
     ∙ ap (λ k. covered covers P (held_from W first_at k)) long
 
 -- The search in a working array W beside whose members are the sets S, midway: the one at `at` is the i-th. None before it
