@@ -35,14 +35,6 @@ pub fn fill<R: Read>(reader: &mut R, into: &mut [u8]) -> io::Result<usize>
     Ok(done)
 }
 
-// A byte as a wide number.
-pub fn wide(x: u8) -> usize
-    ensures value { result ≡ x }
-    ensures small { result < 256 }
-{
-    usize::from(x)
-}
-
 // The number in four bytes, the low one first.
 pub fn size(s: &[u8; 4]) -> usize
     ensures value { result ≡ low_first s.now }

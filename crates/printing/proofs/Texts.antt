@@ -248,3 +248,6 @@ module _ (answers : ℕ) (W : List ℕ) (i n : ℕ) where
           subst (λ k. WrittenAt new_places answers W k v) (sym next)
               (subst (WrittenAt new_places answers W (member_end new_places answers W i)) (sym less) both.1),
         )
+
+  pub first_member : 0 < n → WrittenAt new_places answers W i n → MemberAt new_places answers W i
+  first_member h s = (first_stands (member_end new_places answers W i) (n - 1) refl refl h s).0

@@ -13,6 +13,7 @@ use super::put::Text;
 
 impl<'a> Text<'a> {
     // Puts a line of two numbers, each after its words.
+    #[tactic(auto, using(crate::proofs::Texts::line_length))]
     pub fn put_line(&mut self, first: &[u8], m: usize, second: &[u8], n: usize)
         requires { HasRoom (line first.now m second.now n) self.old }
         ensures { Adds (line first.now m second.now n) self.old self.new }
@@ -41,6 +42,7 @@ impl<'a> Text<'a> {
     }
 
     // Puts the atom at i.
+    #[tactic(auto, using(crate::proofs::Texts::atom_length))]
     fn put_atom(&mut self, member: &[u8], i: usize)
         requires { (i + 7 ≤ length member.now)
             × T (is_atom stored member.now i)
@@ -68,6 +70,7 @@ impl<'a> Text<'a> {
     }
 
     // Puts n atoms from i on, with a space between two.
+    #[tactic(auto, using(crate::proofs::Texts::all_length, covering::proofs::Places::sound_more))]
     fn put_all(&mut self, output: &[u8], i: usize, n: usize)
         requires { AtomsIn stored output.now i n
             × HasRoom (separated (ascii " ") atom_text (atoms_at stored output.now i n)) self.old }
@@ -81,6 +84,7 @@ impl<'a> Text<'a> {
     }
 
     // Puts what stands for the atoms of a member without any, after its answer record if it has one.
+    #[tactic(auto, using(crate::proofs::Texts::always_alone, crate::proofs::Texts::always_after))]
     fn put_always(&mut self, count: u8, answers: u8)
         requires { HasRoom (always_bytes count answers) self.old }
         ensures { Adds (always_bytes count answers) self.old self.new }
@@ -95,6 +99,7 @@ impl<'a> Text<'a> {
     }
 
     // Puts a member's line: its answer records from i on and the atoms that it counts.
+    #[tactic(auto, using(crate::proofs::Texts::member_length))]
     fn put_member(&mut self, output: &[u8], i: usize, count: u8, answers: u8)
         requires { AtomsIn stored output.now i (answers + count)
             × Counted answers count (atoms_at stored output.now i (answers + count))

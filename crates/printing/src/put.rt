@@ -41,6 +41,7 @@ impl<'a> Text<'a> {
 
     // Puts the number n in decimal: its tenth first, then its last digit. By hand, since `write!` says what it wrote
     // only where it did not fail, and what `answer` promises has no such case.
+    #[tactic(auto, using(crate::proofs::Decimal::one_length, crate::proofs::Decimal::more_length))]
     pub fn put_decimal(&mut self, n: usize)
         requires { HasRoom (decimal n) self.old }
         ensures { Adds (decimal n) self.old self.new }

@@ -4,15 +4,6 @@ use Rattle.printing.proofs.Adding.{adds_as, then}
 use Rattle.printing.proofs.Results.{Words, union_text, union_length, stands_there}
 use Rattle.printing.proofs.print.Goals as goal
 
-pub word-members-requires : goal.word-members-requires
-word-members-requires c = omega (arith, c.requires.0.header)
-
-pub word-explored-requires : goal.word-explored-requires
-word-explored-requires c = omega (arith, c.requires.0.header)
-
-pub word-first-requires : goal.word-first-requires
-word-first-requires c = omega (arith, c.requires.0.header)
-
 pub put_line-requires : goal.put_line-requires
 put_line-requires c =
     let words : Words c.args.output.now c.word-members.result c.word-explored.result c.word-first.result =

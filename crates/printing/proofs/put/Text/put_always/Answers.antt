@@ -1,7 +1,5 @@
 -- `printing::put::Text::put_always` meets its contract.
 use native.Mathlib.Omega.{arith}
-use mathlib.Core.Path.{ap}
-use lib.ListN.{length}
 use Rattle.printing.proofs.Adding.{adds_none, adds_as}
 use Rattle.printing.proofs.Texts.{always_not, always_alone, always_after}
 use Rattle.printing.proofs.put.Text.put_always.Goals as goal
@@ -11,20 +9,10 @@ returns-then-count-ne0 c =
     let a = c.args in
     adds_as (always_not a.count a.answers c.if-count-ne0.true) (adds_none (omega arith))
 
-pub put-requires : goal.put-requires
-put-requires c =
-    let a = c.args in
-    omega (arith, ap length (always_alone a.count a.answers (omega arith) (omega arith)))
-
 pub returns-then-answers-eq0 : goal.returns-then-answers-eq0
 returns-then-answers-eq0 c =
     let a = c.args in
     adds_as (always_alone a.count a.answers (omega arith) (omega arith)) c.put.ensures
-
-pub put-requires-2 : goal.put-requires-2
-put-requires-2 c =
-    let a = c.args in
-    omega (arith, ap length (always_after a.count a.answers (omega arith) c.if-answers-eq0.false))
 
 pub returns : goal.returns
 returns c =

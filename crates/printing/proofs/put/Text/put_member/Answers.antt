@@ -4,17 +4,8 @@ use Rattle.printing.proofs.Adding.{adds_as, then}
 use Rattle.printing.proofs.Texts.{member_text, member_length}
 use Rattle.printing.proofs.put.Text.put_member.Goals as goal
 
-pub overflow_add-answers : goal.overflow_add-answers
-overflow_add-answers c = omega (arith, c.requires.2)
-
 pub put_all-requires : goal.put_all-requires
 put_all-requires c = rw c.from.ensures (c.requires.0, omega (arith, member_length _ c.requires.1))
-
-pub put_always-requires : goal.put_always-requires
-put_always-requires c = let put = rw c.from.ensures at c.put_all.ensures in omega (arith, member_length _ c.requires.1)
-
-pub put-requires : goal.put-requires
-put-requires c = let put = rw c.from.ensures at c.put_all.ensures in omega (arith, member_length _ c.requires.1)
 
 pub returns : goal.returns
 returns c =
