@@ -1,3 +1,2 @@
--- What a slice is filled with; and what follows of it for the bytes that a reader had.
-pub mod Filling
+-- What follows of a filled slice for the bytes that a reader had.
 pub mod Filled

@@ -1,5 +1,5 @@
 -- Bytes that are read for nothing. Assumes nothing.
-use Rattle.std.proofs.Common.{◌≡◌, ℕ, ◌+◌, ◌<◌, ◌≤◌, List, None, Some, true, false, arith, length, take, drop, refl, ap, ◌∙◌, subst, length-drop}
+use Rattle.std.proofs.Common.{◌≡◌, ℕ, ◌+◌, ◌≤◌, List, None, Some, true, arith, length, take, drop, ap, ◌∙◌, subst, length-drop}
 use Rattle.std.specs.declared.option.Option.{Option}
 use Rattle.std.proofs.lemmas.List.{drop-drop, length-take}
 use Rattle.input.specs.Filled.{Fills}
@@ -9,10 +9,6 @@ use Rattle.rauntiko_batch.specs.Batch.{Skips}
 pub fills_of : (b c : Option (List ℕ)) (room : ℕ) (read xs : List ℕ) → b ≡ Some xs → Fills room b c read
     → (read ≡ take room xs) × (c ≡ Some (drop room xs))
 fills_of b c room read xs e f = subst (λ o. Fills room o c read) e f
-
-pub skip_none : (a : Option (List ℕ)) → Skips 0 a a true
-skip_none None = tt
-skip_none (Some xs) = (omega arith, refl)
 
 -- as many as were asked for
 pub skip_more : (a b c : Option (List ℕ)) (done step room : ℕ) (read : List ℕ) → Skips done a b true → Fills room b c
@@ -25,12 +21,3 @@ skip_more (Some xs) b c done step room read s f all full =
       g.1 ∙ ap (λ (l : List ℕ). Some l)
           (ap (λ r. drop r (drop done xs)) all ∙ drop-drop step done xs),
     )
-
--- or fewer, and then the reader is at its end
-pub skip_short : (a b c d : Option (List ℕ)) (done step room n : ℕ) (read : List ℕ) → Skips done a b true → Fills
-    room b c read → room ≡ step → length read < step → done + step ≤ n
-    → Skips n a d false
-skip_short None b c d done step room n read s f all short within = tt
-skip_short (Some xs) b c d done step room n read s f all short within =
-    let g = fills_of b c room read (drop done xs) s.1 f in
-    omega (arith, s.0, short, within, ap length g.0, all, length-take room (drop done xs), length-drop done xs)

@@ -1,11 +1,10 @@
 -- What a turn read stands after what the turns before it read.
-use Rattle.std.proofs.Common.{◌≡◌, ℕ, ◌+◌, ◌-◌, ◌≤◌, ◌<◌, List, ◌++◌, append-nil, rules, arith, length, take, slice_range, sym, ap, ◌∙◌, subst, le_refl, drop_at, length-take-le}
+use Rattle.std.proofs.Common.{◌≡◌, ℕ, ◌+◌, ◌-◌, ◌≤◌, List, ◌++◌, rules, arith, length, take, slice_range, sym, ap, ◌∙◌, subst, le_refl, drop_at, length-take-le}
 use Rattle.std.proofs.lemmas.Slice.{take-put_mid_below}
 use Rattle.std.specs.Io.KnownBytes.{Consumes}
 use Rattle.std.proofs.KnownBytes.{Consumes-trans}
 use borrow.Rule.Slice.PartMut.{put_mid, post_of}
 use lib.Seq.{take-add, take-append-le}
-use Rattle.input.proofs.Filling.{fills_full, fills_end}
 use Rattle.input.proofs.fill.Goals as goal
 
 take_split : (a b : ℕ) (old new : List ℕ) → a ≤ b → take a new ≡ take a old → take a old ++ slice_range new a b ≡ take b new
@@ -32,20 +31,3 @@ loop-done-preserved g c =
       subst (Consumes _ _) (ap (λ l. take from c.loop-done.into ++ l) (sym part) ∙ joined)
           (Consumes-trans _ _ _ _ _ c.loop-done.invariant.1 c.in_ok-n.ensures.bytes.0),
     )
-
-pub returns-clause-bytes : goal.returns-clause-bytes
-returns-clause-bytes g c =
-    fills_full _ _ _ _
-    (length-take-le _ _ c.loop-done.invariant.0 ∙ omega (arith, c.loop-done.invariant.0, c.loop-done-test.false)) c.loop-done.invariant.1
-
-pub returns-then-n-eq0-clause-bytes : goal.returns-then-n-eq0-clause-bytes
-returns-then-n-eq0-clause-bytes g c =
-    let from = c.loop-done.done in
-    let into = put_mid from (length c.loop-done.into - from) c.loop-done.into c.read.new.buf in
-    let within = c.loop-done.invariant.0 in
-    let short : length (take from into) ≤ length into = search rules in
-    let room : 0 < length c.read.new.buf = search rules in
-    let same = ap (λ n. take from c.loop-done.into ++ take n c.read.new.buf) c.if-n-eq0.true ∙ append-nil _ ∙ sym
-    (take-put_mid_below _ _ _ _ _ (le_refl _) within) in
-    let taken = subst (Consumes _ _) same (Consumes-trans _ _ _ _ _ c.loop-done.invariant.1 c.in_ok-n.ensures.bytes.0) in
-    fills_end _ _ _ _ short taken (c.in_ok-n.ensures.bytes.1 c.if-n-eq0.true room)
