@@ -31,7 +31,8 @@ use Rattle.exploration.proofs.HeldBytes.{held_total_lem, held_most, held_last}
 use Rattle.admit.proofs.Holding.{held_appended}
 use Rattle.admit.proofs.Beside.{sets_more}
 
-module _ (answers : ℕ) (one : answers ≤ 1) {W : List ℕ} {e : Extent} (w : Working W e) {s : State} (was : state_in W e ≡ s) (P : Question)
+module _ (answers : ℕ) (one : answers ≤ 1) {W : List ℕ} {e : Extent} (w : Working W e) {s : State}
+    (was : state_in W e ≡ s) (P : Question)
   where
     abbrev U : List Question
     U = held_from W first_at e.count
@@ -49,7 +50,12 @@ module _ (answers : ℕ) (one : answers ≤ 1) {W : List ℕ} {e : Extent} (w : 
       not_covered = false→T (covered covers P U) (sym h ∙ d)
 
       pub fate_long : 8 + answers < length P → (t : State) → FateIs (limits_for answers) s P t (Err TooLong)
-      fate_long long t = (too_long, ap (λ (u : State). admit covers (limits_for answers) u P) (sym was) ∙ admit_is covers (limits_for answers) (was_long not_covered long), refl)
+      fate_long long t = (
+        too_long,
+        ap (λ (u : State). admit covers (limits_for answers) u P) (sym was)
+            ∙ admit_is covers (limits_for answers) (was_long not_covered long),
+        refl,
+      )
 
       module _ (short : length P ≤ 8 + answers) {X : List ℕ} {f : Extent} (x : Working X f)
           (kept : state_in X f ≡ rest (state_in W e) P)
@@ -62,7 +68,12 @@ module _ (answers : ℕ) (one : answers ≤ 1) {W : List ℕ} {e : Extent} (w : 
               sym (members_count X first_at f.count) ∙ ap (λ (s : State). length s.members) kept
 
           pub fate_full : 64 ≤ f.count → (t : State) → FateIs (limits_for answers) s P t (Err NoRoom)
-          fate_full full t = (no_room, ap (λ (u : State). admit covers (limits_for answers) u P) (sym was) ∙ admit_is covers (limits_for answers) (was_full new (omega (arith, left))), refl)
+          fate_full full t = (
+            no_room,
+            ap (λ (u : State). admit covers (limits_for answers) u P) (sym was)
+                ∙ admit_is covers (limits_for answers) (was_full new (omega (arith, left))),
+            refl,
+          )
 
           module _ (fits : Fits stored P) (room : f.count < 64) where
             abbrev longer : List Question

@@ -17,7 +17,8 @@ use Rattle.exploration.specs.Refusals.{limits_of}
 use Rattle.explore.proofs.Coming.{given_none, given_some}
 use Rattle.explore.proofs.Onward.{onward_first, onward_done, onward_dropped, onward_refused}
 use Rattle.explore.proofs.Onward.{onward_stopped, onward_appended, onward_passed, fewer, fewer_passed}
-use Rattle.explore.proofs.Turn.{member_question_in, member_record, taken_sound, taken_covers, taken_fate, taken_rule, taken_choice, taken_passed}
+use Rattle.explore.proofs.Turn.{member_question_in, member_record}
+use Rattle.explore.proofs.Turn.{taken_sound, taken_covers, taken_fate, taken_rule, taken_choice, taken_passed}
 use Rattle.exploration.proofs.OfBook.{answers_few}
 use Rattle.explore.proofs.exploring.explore.Goals as goal
 
@@ -53,7 +54,8 @@ pub returns-in_err-admit : goal.returns-in_err-admit
 returns-in_err-admit c =
     let o = c.loop-taken.invariant in
     let g = given_some _ _ _ _ _ _ _ c.in-Some.ensures.0 in
-    let fate = taken_fate (is_sound c.rules.invariant c.rules.view_is) c.requires o g (c.rules.invariant.answers_are ∙ ap answers_of c.rules.view_is) _ _ _ c.in_err-admit.was c.admit.ensures in
+    let answers = c.rules.invariant.answers_are ∙ ap answers_of c.rules.view_is in
+    let fate = taken_fate (is_sound c.rules.invariant c.rules.view_is) c.requires o g answers _ _ _ c.in_err-admit.was c.admit.ensures in
     let p = err_from_is_err_and c.from_residual.result c.from_residual.ensures.1 in
     rw (p.1, p.2) (onward_refused _ _ _ _ o g c.admit.new.self _ fate)
 
@@ -78,7 +80,8 @@ loop-taken-preserved-in-Dropped c =
     let o = c.loop-taken.invariant in
     let g = given_some _ _ _ _ _ _ _ c.in-Some.ensures.0 in
     let was = c.in_ok-admit.was ∙ ap Ok c.in-Dropped.is in
-    let fate = taken_fate s M o g (c.rules.invariant.answers_are ∙ ap answers_of c.rules.view_is) _ _ _ was c.admit.ensures in
+    let answers = c.rules.invariant.answers_are ∙ ap answers_of c.rules.view_is in
+    let fate = taken_fate s M o g answers _ _ _ was c.admit.ensures in
     let x = onward_dropped _ _ _ _ o g _ fate in
     onward_passed _ _ _ _ o g x (taken_passed s M o g c.after_drop-resumed.ensures)
 
@@ -97,7 +100,8 @@ returns-then-covers_sound c =
     let o = c.loop-taken.invariant in
     let g = given_some _ _ _ _ _ _ _ c.in-Some.ensures.0 in
     let was = c.in_ok-admit.was ∙ ap Ok c.in-Appended.is in
-    let fate = taken_fate s M o g (c.rules.invariant.answers_are ∙ ap answers_of c.rules.view_is) _ _ _ was c.admit.ensures in
+    let answers = c.rules.invariant.answers_are ∙ ap answers_of c.rules.view_is in
+    let fate = taken_fate s M o g answers _ _ _ was c.admit.ensures in
     let removed = taken_covers s M o g _ c.covers_sound.ensures ∙ c.if-covers_sound.true in
     onward_stopped _ _ _ _ o g _ fate removed
 
@@ -114,6 +118,7 @@ loop-taken-preserved c =
     let o = c.loop-taken.invariant in
     let g = given_some _ _ _ _ _ _ _ c.in-Some.ensures.0 in
     let was = c.in_ok-admit.was ∙ ap Ok c.in-Appended.is in
-    let fate = taken_fate s M o g (c.rules.invariant.answers_are ∙ ap answers_of c.rules.view_is) _ _ _ was c.admit.ensures in
+    let answers = c.rules.invariant.answers_are ∙ ap answers_of c.rules.view_is in
+    let fate = taken_fate s M o g answers _ _ _ was c.admit.ensures in
     let stays = taken_covers s M o g _ c.covers_sound.ensures ∙ c.if-covers_sound.false in
     onward_appended _ _ _ _ o g _ fate stays

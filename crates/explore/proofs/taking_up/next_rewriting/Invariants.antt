@@ -12,5 +12,6 @@ use Rattle.explore.proofs.taking_up.next_rewriting.Given as goal
 abbrev pub invariant-loop-rule : goal.invariant-loop-rule
 invariant-loop-rule l =
     (next_among (question_of stored l.member) l.k l.from (drop l.k (book_of l.rules).rules)
-    ≡ next_among (question_of stored l.member) l.rule l.first (rules_from l.rules-inside.book.now (rule_start l.rules-inside.book.now l.rule) (rules_of l.rules-inside.book.now - l.rule)))
+    ≡ next_among (question_of stored l.member) l.rule l.first
+    (rules_from l.rules-inside.book.now (rule_start l.rules-inside.book.now l.rule) (rules_of l.rules-inside.book.now - l.rule)))
     × (l.out ≡ l.initial.out)

@@ -57,7 +57,8 @@ loop-rules-preserved c =
     let old = c.oldest-member.ensures in
     let more : c.loop-rules.taken < (book_of B).allowed = omega (arith, r.few, allowed_read B _ c.read-allowed.ensures) in
     running_next B r more c.requires.0 old.0 old.1 _ old.2 c.take_up.ensures _
-    (by_rules (question_of stored c.oldest-member.result) c.take_up.new.self c.explore-explored.new.members (Ok tt) c.read-rules.ensures c.in_default.ensures)
+    (by_rules (question_of stored c.oldest-member.result) c.take_up.new.self c.explore-explored.new.members
+    (Ok tt) c.read-rules.ensures c.in_default.ensures)
 
 pub loop-rules-smaller : goal.loop-rules-smaller
 loop-rules-smaller c = omega (arith, c.loop-rules.invariant.few, allowed_read c.args.book.now _ c.read-allowed.ensures)
@@ -69,7 +70,8 @@ returns-in-Err c =
     let old = c.oldest-member.ensures in
     let more : c.loop-rules.taken < (book_of B).allowed = omega (arith, r.few, allowed_read B _ c.read-allowed.ensures) in
     outcome_refused B r more c.requires.0 old.0 old.1 _ old.2 c.take_up.ensures c.explore-explored.new.members _
-    (by_rules (question_of stored c.oldest-member.result) c.take_up.new.self c.explore-explored.new.members (Err c.in-Err.reason) c.read-rules.ensures c.in-Err.ensures)
+    (by_rules (question_of stored c.oldest-member.result) c.take_up.new.self c.explore-explored.new.members
+    (Err c.in-Err.reason) c.read-rules.ensures c.in-Err.ensures)
 
 pub returns : goal.returns
 returns c =

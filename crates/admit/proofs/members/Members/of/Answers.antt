@@ -10,8 +10,10 @@ pub invariant_of-members : goal.invariant_of-members
 invariant_of-members c =
     let fits = sound_stored _ c.requires.0 in
     let put = c.append-len.ensures in
-    let s = c.of_one.ensures in
-    (first_working (replicate output_size 0) refl _ fits c.requires.1 _ _ put.0 put.1, first_beside (replicate output_size 0) refl _ fits c.requires.1 _ _ put.0 put.1 _ s.0 s.1)
+    let s = c.of_one.ensures in (
+      first_working (replicate output_size 0) refl _ fits c.requires.1 _ _ put.0 put.1,
+      first_beside (replicate output_size 0) refl _ fits c.requires.1 _ _ put.0 put.1 _ s.0 s.1,
+    )
 
 pub returns : goal.returns
 returns c =
