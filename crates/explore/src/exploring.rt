@@ -47,7 +47,8 @@ pub fn explore(
                 patience = resumed.patience;
             }
             Fate::Appended => {
-                if cover::covers_sound(&room, member) {
+                let stops = cover::covers_sound(&room, member);
+                if stops {
                     return Ok(());
                 }
             }

@@ -85,16 +85,16 @@ loop-taken-preserved-in-Dropped c =
     let x = onward_dropped _ _ _ _ o g _ fate in
     onward_passed _ _ _ _ o g x (taken_passed s M o g c.after_drop-resumed.ensures)
 
-pub covers_sound-requires : goal.covers_sound-requires
-covers_sound-requires c =
+pub covers_sound-stops-requires : goal.covers_sound-stops-requires
+covers_sound-stops-requires c =
     let s = is_sound c.rules.invariant c.rules.view_is in
     let M = c.requires in
     let o = c.loop-taken.invariant in
     let g = given_some _ _ _ _ _ _ _ c.in-Some.ensures.0 in
     (taken_sound s M o g, member_record s M)
 
-pub returns-then-covers_sound : goal.returns-then-covers_sound
-returns-then-covers_sound c =
+pub returns-then-stops : goal.returns-then-stops
+returns-then-stops c =
     let s = is_sound c.rules.invariant c.rules.view_is in
     let M = c.requires in
     let o = c.loop-taken.invariant in
@@ -102,7 +102,7 @@ returns-then-covers_sound c =
     let was = c.in_ok-admit.was ∙ ap Ok c.in-Appended.is in
     let answers = c.rules.invariant.answers_are ∙ ap answers_of c.rules.view_is in
     let fate = taken_fate s M o g answers _ _ _ was c.admit.ensures in
-    let removed = taken_covers s M o g _ c.covers_sound.ensures ∙ c.if-covers_sound.true in
+    let removed = taken_covers s M o g _ c.covers_sound-stops.ensures ∙ c.if-stops.true in
     onward_stopped _ _ _ _ o g _ fate removed
 
 pub loop-taken-smaller : goal.loop-taken-smaller
@@ -120,5 +120,5 @@ loop-taken-preserved c =
     let was = c.in_ok-admit.was ∙ ap Ok c.in-Appended.is in
     let answers = c.rules.invariant.answers_are ∙ ap answers_of c.rules.view_is in
     let fate = taken_fate s M o g answers _ _ _ was c.admit.ensures in
-    let stays = taken_covers s M o g _ c.covers_sound.ensures ∙ c.if-covers_sound.false in
+    let stays = taken_covers s M o g _ c.covers_sound-stops.ensures ∙ c.if-stops.false in
     onward_appended _ _ _ _ o g _ fate stays
