@@ -10,9 +10,6 @@ use Rattle.unify.proofs.TableBytes.{merged_yes, merged_no}
 use Rattle.unify.proofs.Joins.{joins_done, joins_end, joins_short, joins_clash, joins_next}
 use Rattle.unify.proofs.joining.join_places.Goals as goal
 
-pub loop-j-init : goal.loop-j-init
-loop-j-init c = (rw add-zero c.requires.2, rw (add-zero, add-zero) refl)
-
 pub returns-then-t : goal.returns-then-t
 unfolding merged
 returns-then-t c = sym (c.loop-j.invariant.1 ∙ joins_end _ _ _ _ c.loop-j.j 6 (omega arith) _ c.if-t.true)

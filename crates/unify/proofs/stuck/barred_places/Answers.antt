@@ -10,15 +10,6 @@ use Rattle.unify.specs.Stuck.{TiedTo}
 use Rattle.unify.proofs.StuckBytes.{first_within, rest_within, pairs_more}
 use Rattle.unify.proofs.stuck.barred_places.Goals as goal
 
-pub loop-j-init : goal.loop-j-init
-loop-j-init c = (rw add-zero c.requires.2, rw (add-zero, add-zero) (λ x m. m))
-
-pub returns-then-t : goal.returns-then-t
-returns-then-t c = λ e. absurd (true≢false (sym e))
-
-pub returns-then-u : goal.returns-then-u
-returns-then-u c = λ e. absurd (true≢false (sym e))
-
 pub moved-requires : goal.moved-requires
 moved-requires c =
     let a = c.args in
@@ -39,6 +30,3 @@ loop-j-preserved c =
       (used_more a.rule.now.book.now a.k c.loop-j.j 6 (omega arith) in_book c.loop-j.invariant.0 c.if-u.false).1,
       rest_within (pairs_more _ _ _ _ c.loop-j.j 6 (omega arith) c.if-t.false c.if-u.false) c.loop-j.invariant.1,
     )
-
-pub returns : goal.returns
-returns c = λ e. absurd (true≢false (sym e))
