@@ -1,51 +1,38 @@
 -- One step of each search for what has no old form, as the code goes: k of n are done, and n - k are left. Assumes
 -- nothing.
 use mathlib.Core.Path.{◌≡◌, refl, sym, subst}
-use mathlib.Core.Bool.{true, false}
 use mathlib.Core.List.{List}
-use mathlib.Core.Option.{none, some}
+use mathlib.Core.Option.{none}
 use Prim.Native.Nat.{ℕ, ◌+◌, ◌-◌, ◌≤◌, ◌<◌}
 use native.Mathlib.Nat.{sub-eq-zero_of_le}
 use native.Mathlib.Omega.{arith}
-use borrow.Author.Tests.{le-leb, lt-leb}
+use lib.Dec.{leb}
 use lib.ListN.{length}
+use Rattle.std.proofs.Common.{Option as Maybe, option_map}
 use Rattle.covering.specs.Lists.{or_else}
 use Rattle.covering.proofs.Tests.{one_more}
 use Rattle.reading.specs.Word.{byte}
 use Rattle.reading.specs.Header.{old, header_size, relations, rules, atoms, question_at, atom_places, atom_size}
 use Rattle.reading.specs.Header.{answer_records}
 use Rattle.reading.specs.Book.{body_count, head_count, body_at, rule_end, rule_start}
-use Rattle.reading.specs.Verdict.{SoundBook}
+use Rattle.reading.specs.Verdict.{told, SoundBook}
 use Rattle.reading.specs.Copy.{wide_places, term_old, late_from, late_in_atoms, late_in_rules, no_old_form}
 use Rattle.reading.proofs.SoundBook.{sound_header, sound_rule}
+use Rattle.judging.specs.Found.{told_at}
+use Rattle.judging.proofs.FirstFound.{first_wrong, first_told}
 use Rattle.forms.specs.Late.{in_rules}
 
 module _ (B : List ℕ) where
-  pub wide_end : (i n k : ℕ) → n ≤ k → wide_places B i (n - k) ≡ none
-  unfolding wide_places
-  wide_end i n k h = rw (sub-eq-zero_of_le h)
+  module _ (i n : ℕ) (r : Maybe ℕ) where
+    pub wide_told : option_map (λ x. x) r ≡ first_wrong (λ j. leb (byte B j) old.places) i n
+        → told_at 13 r ≡ told 13 (wide_places B i n)
+    unfolding wide_places
+    wide_told = first_told (λ j. leb (byte B j) old.places) (wide_places B) i 13 (λ a. refl) (λ a m l. refl) n r
 
-  pub wide_found : (i n k : ℕ) → k < n → old.places < byte B i → wide_places B i (n - k) ≡ some i
-  unfolding wide_places
-  wide_found i n k h l = rw (one_more n k h, wide_places, lt-leb (byte B i) old.places l)
-
-  pub wide_next : (i n k : ℕ) → k < n → byte B i ≤ old.places → wide_places B i (n - k) ≡ wide_places B (i + 1) (n -
-      (k + 1))
-  unfolding wide_places
-  wide_next i n k h l = rw (one_more n k h, wide_places, le-leb (byte B i) old.places l)
-
-  pub late_end : (i n k : ℕ) → n ≤ k → late_from B i (n - k) ≡ none
-  unfolding late_from
-  late_end i n k h = rw (sub-eq-zero_of_le h)
-
-  pub late_found : (i n k : ℕ) → k < n → term_old (byte B i) ≡ false → late_from B i (n - k) ≡ some i
-  unfolding late_from
-  late_found i n k h e = rw (one_more n k h, late_from, e)
-
-  pub late_next : (i n k : ℕ) → k < n → term_old (byte B i) ≡ true → late_from B i (n - k) ≡ late_from B (i + 1) (n -
-      (k + 1))
-  unfolding late_from
-  late_next i n k h e = rw (one_more n k h, late_from, e)
+    pub late_told : option_map (λ x. x) r ≡ first_wrong (λ j. term_old (byte B j)) i n
+        → told_at 13 r ≡ told 13 (late_from B i n)
+    unfolding late_from
+    late_told = first_told (λ j. term_old (byte B j)) (late_from B) i 13 (λ a. refl) (λ a m l. refl) n r
 
   pub atoms_end : (i n k : ℕ) → n ≤ k → late_in_atoms B i (n - k) ≡ none
   unfolding late_in_atoms

@@ -8,7 +8,7 @@ ghost use Rattle.reading.specs.Copy.{wide_places, term_old, late_from, late_in_a
 ghost use Rattle.forms.specs.Late.{in_rules};
 
 use book::{Header, answers, read};
-use judging::OLD_PLACES;
+use judging::{OLD_PLACES, refused_at};
 use reading::{Reason, Refused};
 
 // An old book has the variables 0 to 31.
@@ -22,15 +22,8 @@ fn wide_places(book: &[u8], i: usize, n: usize) -> Result<(), Refused>
     requires { i + n ≤ length book.now }
     ensures { judged result ≡ told 13 (wide_places book.now i n) }
 {
-    for at in i..i + n {
-        if OLD_PLACES < usize::from(book[at]) {
-            return Err(Refused {
-                reason: Reason::NoOldForm,
-                place: at,
-            });
-        }
-    }
-    Ok(())
+    let wide = (i..i + n).find(|at| OLD_PLACES < usize::from(book[*at]));
+    refused_at(wide, Reason::NoOldForm)
 }
 
 // Whether a byte is no variable above 31.
@@ -45,15 +38,8 @@ fn late_from(book: &[u8], i: usize, n: usize) -> Result<(), Refused>
     requires { i + n ≤ length book.now }
     ensures { judged result ≡ told 13 (late_from book.now i n) }
 {
-    for at in i..i + n {
-        if !is_old(usize::from(book[at])) {
-            return Err(Refused {
-                reason: Reason::NoOldForm,
-                place: at,
-            });
-        }
-    }
-    Ok(())
+    let late = (i..i + n).find(|at| !is_old(usize::from(book[*at])));
+    refused_at(late, Reason::NoOldForm)
 }
 
 // The first in n atoms of w places from i on.

@@ -19,7 +19,7 @@ use Rattle.covering.proofs.Lists.{any_append}
 use Rattle.covering.proofs.Bytes.{term_var, term_same, args_more, args_end}
 use Rattle.covering.proofs.Places.{args_none, atoms_none, terms_first}
 use Rattle.reading.specs.Word.{byte}
-use Rattle.reading.specs.Header.{atoms, question_at, atom_places, variables, announced, answer_records}
+use Rattle.reading.specs.Header.{atoms, question_at, atom_places, announced, answer_records}
 use Rattle.reading.specs.Header.{question_atoms_at}
 use Rattle.reading.specs.Book.{question_atoms}
 use Rattle.reading.specs.Refusals.{used_places, answer_places}
@@ -107,21 +107,6 @@ module _ (B : List ℕ) where
     where
       after : question_atoms_at B ≡ q + 1 + w
       after = omega (arith, atoms_after B (true→T _ t))
-
-  -- its variables
-  module _ (A : Question) (i n w : ℕ) where
-    pub loose_end : n ≤ w → loose_from B A i (n - w) ≡ none
-    unfolding loose_from
-    loose_end h = rw (sub-eq-zero_of_le h)
-
-    pub loose_wrong : w < n → stands_in (variables B) A (byte B i) ≡ false → loose_from B A i (n - w) ≡ some i
-    unfolding loose_from
-    loose_wrong h e = rw (one_more n w h, loose_from, e)
-
-    pub loose_right : w < n → stands_in (variables B) A (byte B i) ≡ true
-        → loose_from B A i (n - w) ≡ loose_from B A (i + 1) (n - (w + 1))
-    unfolding loose_from
-    loose_right h e = rw (one_more n w h, loose_from, e)
 
   -- a variable among the places of an atom
   module _ (b i w n : ℕ) where

@@ -7,7 +7,6 @@ use Prim.Native.Nat.{ℕ, ◌+◌, ◌*◌, ◌-◌, ◌≤◌, ◌<◌}
 use native.Mathlib.Nat.{sub-eq-zero_of_le, mul-le-mul_left}
 use native.Mathlib.Omega.{arith}
 use borrow.Author.Tests.{le-leb, lt-leb, lt-ltb, le-ltb}
-use lib.Dec.{ltb}
 use lib.ListN.{length}
 use Rattle.covering.specs.Lists.{or_else}
 use Rattle.covering.proofs.Tests.{no→false, true→T, none≢some, one_more}
@@ -19,10 +18,9 @@ use Rattle.reading.specs.Refusal.{Refusal}
 use Rattle.reading.specs.Told.{judged}
 use Rattle.reading.proofs.ToldOnce.{some_number}
 use Rattle.reading.specs.Word.{byte}
-use Rattle.reading.specs.Header.{header_size, relations, constants, rules, atoms, question_at, header_of, inside}
-use Rattle.reading.specs.Header.{places_range, form_of, atom_size, atom_places, variables, question_atoms_at}
+use Rattle.reading.specs.Header.{header_size, relations, rules, atoms, question_at, header_of}
+use Rattle.reading.specs.Header.{atom_size, atom_places, question_atoms_at}
 use Rattle.reading.specs.Book.{body_count, head_count, body_at, rule_end, rules_start, places_of}
-use Rattle.reading.specs.Refusals.{place_allowed}
 use Rattle.reading.specs.Verdict.{wrong_places, rule_right, wrong_rule, wrong_place, wrong_in_atom, wrong_in_atoms}
 use Rattle.reading.specs.Verdict.{wrong_in_rules, wrong_in_question, wrong_byte, loose_variable, refuse, told, accepted, in_table}
 use Rattle.reading.specs.Verdict.{offsets_right, contents, verdict}
@@ -64,20 +62,6 @@ pub handed : (r : Result Unit Refused) (e : Refused) {t : Refusal} → IsErrAnd 
 handed r e h d = let p = err_from_is_err_and r h in rw (p.1, p.2) d
 
 module _ (B : List ℕ) where
-  pub places_end : (i n k : ℕ) → n ≤ k → wrong_places B i (n - k) ≡ none
-  unfolding wrong_places
-  places_end i n k h = rw (sub-eq-zero_of_le h)
-
-  pub places_wrong : (i n k : ℕ) → k < n → inside (places_range (form_of B)) (byte B i) ≡ false
-      → wrong_places B i (n - k) ≡ some i
-  unfolding wrong_places
-  places_wrong i n k h e = rw (one_more n k h, wrong_places, e)
-
-  pub places_right : (i n k : ℕ) → k < n → inside (places_range (form_of B)) (byte B i) ≡ true
-      → wrong_places B i (n - k) ≡ wrong_places B (i + 1) (n - (k + 1))
-  unfolding wrong_places
-  places_right i n k h e = rw (one_more n k h, wrong_places, e)
-
   pub rules_end_right : (e s n k : ℕ) → n ≤ k → e ≤ s → wrong_rule B e s (n - k) ≡ none
   unfolding wrong_rule
   rules_end_right e s n k h l = rw (sub-eq-zero_of_le h, wrong_rule, le-leb e s l)
@@ -122,20 +106,6 @@ module _ (B : List ℕ) where
       go : (b : Bool) → rule_right B e s ≡ b → NextRule e s (n - (k + 1))
       go true d = record { ends = (rule_right_lem B e s (true→T _ d)).ends; rest = sym (rules_pass e s n k l d) ∙ h }
       go false d = absurd (none≢some (sym h ∙ rules_stop e s n k l d))
-
-  pub place_end : (u i w n : ℕ) → n ≤ w → wrong_place B u i w (n - w) ≡ none
-  unfolding wrong_place
-  place_end u i w n h = rw (sub-eq-zero_of_le h)
-
-  pub place_wrong : (u i w n : ℕ) → w < n → place_allowed (variables B) (constants B) (ltb w u) (byte B (i + w)) ≡ false
-      → wrong_place B u i w (n - w) ≡ some (i + w)
-  unfolding wrong_place
-  place_wrong u i w n h e = rw (one_more n w h, wrong_place, e)
-
-  pub place_right : (u i w n : ℕ) → w < n → place_allowed (variables B) (constants B) (ltb w u) (byte B (i + w)) ≡ true
-      → wrong_place B u i w (n - w) ≡ wrong_place B u i (w + 1) (n - (w + 1))
-  unfolding wrong_place
-  place_right u i w n h e = rw (one_more n w h, wrong_place, e)
 
   pub relation_wrong : (i : ℕ) → relations B ≤ byte B i → wrong_in_atom B i ≡ some i
   unfolding wrong_in_atom

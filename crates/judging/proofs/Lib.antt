@@ -2,3 +2,4 @@
 pub mod JudgingSteps
 pub mod AnswerSteps
 pub mod JudgedHeader
+pub mod FirstFound

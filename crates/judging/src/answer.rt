@@ -3,10 +3,14 @@ ghost use Rattle.std.specs.Prelude.{◌≡◌, ◌+◌, ◌*◌, ◌<◌, ◌≤
 ghost use Rattle.covering.specs.Lists.{any};
 ghost use Rattle.covering.specs.Term.{var, eq_term};
 ghost use Rattle.covering.specs.Record.{holding, args_at, atoms_at};
+ghost use Rattle.reading.specs.Header.{atom_places};
 ghost use Rattle.reading.specs.Refusals.{used_places};
-ghost use Rattle.reading.specs.Verdict.{stands_in};
+ghost use Rattle.reading.specs.Told.{judged};
+ghost use Rattle.reading.specs.Verdict.{told, stands_in, loose_from};
 
+use super::first::refused_at;
 use super::words::{UNUSED, variables};
+use reading::{Reason, Refused};
 
 // How many of the n places from i on are used: those before the first 255.
 pub fn used_places(book: &[u8], i: usize, n: usize) -> usize
@@ -39,7 +43,7 @@ fn stands_at(book: &[u8], i: usize, n: usize, b: usize) -> bool
 }
 
 // Whether the byte b is no variable, or stands in one of the n atoms of w places from i on.
-pub fn stands(book: &[u8], i: usize, n: usize, w: usize, b: usize) -> bool
+fn stands(book: &[u8], i: usize, n: usize, w: usize, b: usize) -> bool
     requires { (i + (1 + w) * n ≤ length book.now) × (w ≤ 6) }
     ensures { result ≡ stands_in (8 * w) (atoms_at (holding w) book.now i n) b }
 {
@@ -52,4 +56,14 @@ pub fn stands(book: &[u8], i: usize, n: usize, w: usize, b: usize) -> bool
         }
     }
     false
+}
+
+// Refusal 11, in the w places of an answer record from i on: the first variable that stands in none of the n atoms after.
+pub fn loose_from(book: &[u8], i: usize, n: usize, w: usize) -> Result<(), Refused>
+    requires { (i + w + (1 + w) * n ≤ length book.now) × (w ≡ atom_places book.now) × (w ≤ 6) }
+    ensures { judged result ≡ told 11 (loose_from book.now (atoms_at (holding w) book.now (i + w) n) i w) }
+{
+    let atoms = i + w;
+    let loose = (i..atoms).find(|at| !stands(book, atoms, n, w, usize::from(book[*at])));
+    refused_at(loose, Reason::LooseAnswer)
 }

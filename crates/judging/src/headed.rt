@@ -8,7 +8,7 @@ ghost use Rattle.reading.specs.Verdict.{wrong_in_rules, wrong_in_question, wrong
 ghost use Rattle.judging.specs.Judged.{HeaderRight, RulesRight, wrong_record};
 
 use super::Header;
-use super::answer::{stands, used_places};
+use super::answer::{loose_from, used_places};
 use super::header::answers;
 use super::judge::{wrong_place, wrong_places, wrong_rule};
 use super::words::{ANSWER, ANSWERS, atoms_size};
@@ -113,24 +113,11 @@ impl<'a> Headed<'a> {
     fn loose_variable(self) -> Result<(), Refused>
         ensures { judged result ≡ told 11 (loose_variable self.entry.book.now) }
     {
-        let book = self.book;
         let h = self.header;
         if answers(h) == 0 {
             return Ok(());
         }
-        let first = h.question + 1;
-        let places = h.places;
-        let atoms = first + places;
-        let n = h.atoms;
-        for byte in first..first + places {
-            if !stands(book, atoms, n, places, usize::from(book[byte])) {
-                return Err(Refused {
-                    reason: Reason::LooseAnswer,
-                    place: byte,
-                });
-            }
-        }
-        Ok(())
+        loose_from(self.book, h.question + 1, h.atoms, h.places)
     }
 }
 

@@ -6,6 +6,7 @@ ghost use Rattle.reading.specs.Told.{judged};
 ghost use Rattle.reading.specs.Refusals.{place_allowed};
 ghost use Rattle.reading.specs.Verdict.{told, wrong_places, rule_right, wrong_rule, wrong_place};
 
+use super::first::refused_at;
 use super::words::{atoms_size, variables, within};
 use reading::{Reason, Refused};
 
@@ -14,15 +15,8 @@ pub fn wrong_places(book: &[u8], i: usize, n: usize, w: usize) -> Result<(), Ref
     requires { (i + n ≤ length book.now) × (w ≡ atom_places book.now) }
     ensures { judged result ≡ told 5 (wrong_places book.now i n) }
 {
-    for at in i..i + n {
-        if !within(usize::from(book[at]), 1, w) {
-            return Err(Refused {
-                reason: Reason::WrongRelation,
-                place: at,
-            });
-        }
-    }
-    Ok(())
+    let wrong = (i..i + n).find(|at| !within(usize::from(book[*at]), 1, w));
+    refused_at(wrong, Reason::WrongRelation)
 }
 
 // Where the rule at s ends, if it is right.
@@ -84,14 +78,6 @@ pub fn wrong_place(book: &[u8], i: usize, used: usize, n: usize, c: usize) -> Re
     ensures { judged result ≡ told 7 (wrong_place book.now used i 0 n) }
 {
     let k = variables(n);
-    for w in 0..n {
-        let here = i + w;
-        if !allowed(usize::from(book[here]), w < used, k, c) {
-            return Err(Refused {
-                reason: Reason::WrongByte,
-                place: here,
-            });
-        }
-    }
-    Ok(())
+    let wrong = (i..i + n).find(|at| !allowed(usize::from(book[*at]), *at - i < used, k, c));
+    refused_at(wrong, Reason::WrongByte)
 }

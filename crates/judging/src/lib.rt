@@ -2,12 +2,14 @@
 #![tactic(auto)]
 
 mod answer;
+mod first;
 mod form;
 mod headed;
 mod header;
 mod judge;
 mod words;
 
+pub use first::refused_at;
 pub use form::Form;
 pub use headed::contents;
 pub use header::{answers, in_table, offsets_right};

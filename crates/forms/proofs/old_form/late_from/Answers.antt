@@ -1,22 +1,16 @@
--- The places passed have no variable above 31, so the first is the first among those left. Assumes nothing.
-use Rattle.std.proofs.Common.{sym, ◌∙◌, ap, arith}
-use Rattle.reading.specs.Verdict.{told}
-use Rattle.reading.specs.Copy.{term_old, late_from}
-use Rattle.forms.proofs.LateSteps.{late_end, late_found, late_next}
+-- The place is that of the first variable above 31, as the search finds it. Assumes nothing.
+use Rattle.std.proofs.Common.{rules, tests, ◌+◌, ◌∙◌, not, arith}
+use Rattle.std.proofs.lemmas.Iterator.{YieldsList-from_range}
+use Rattle.std.proofs.lemmas.Iterator.Search.{find_from_yields_List}
+use Rattle.reading.specs.Word.{byte}
+use Rattle.reading.specs.Copy.{term_old}
+use Rattle.forms.proofs.LateSteps.{late_told}
 use Rattle.forms.proofs.old_form.late_from.Goals as goal
 
-pub loop-at-init : goal.loop-at-init
-loop-at-init c = ap (late_from c.args.book.now c.args.i) (omega arith)
-
-pub returns-then-not-is_old : goal.returns-then-not-is_old
-returns-then-not-is_old c =
-    let e = ap term_old (sym c.from.ensures) ∙ sym c.is_old.ensures ∙ c.if-not-is_old.true in
-    ap (told 13) (sym (c.loop-at.invariant ∙ late_found _ _ _ _ c.loop-at-test.true e))
-
-pub loop-at-preserved : goal.loop-at-preserved
-loop-at-preserved c =
-    let e = ap term_old (sym c.from.ensures) ∙ sym c.is_old.ensures ∙ c.if-not-is_old.false in
-    c.loop-at.invariant ∙ late_next _ _ _ _ c.loop-at-test.true e
-
 pub returns : goal.returns
-returns c = ap (told 13) (sym (c.loop-at.invariant ∙ late_end _ _ _ _ c.loop-at-test.false))
+returns c =
+    let a = c.args in
+    c.refused_at.ensures
+    ∙ late_told a.book.now a.i a.n c.find-late.result
+    (find_from_yields_List (λ j. not (term_old (byte a.book.now j))) _ _ _ c.find-late.ensures.ran
+    (YieldsList-from_range a.i (a.i + a.n) a.n (search rules) (omega arith)) (λ x b q k. search (rules, tests)))

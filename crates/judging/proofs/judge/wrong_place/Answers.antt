@@ -1,34 +1,24 @@
--- The places passed are allowed, so the first wrong one is the first among those left. Assumes nothing.
-use Rattle.std.proofs.Common.{◌≡◌, ◌+◌, ◌*◌, ℕ, Bool, List, sym, ◌∙◌, ap, ltb, arith}
+-- The place is that of the first byte that is not allowed, as the search finds it. Assumes nothing.
+use Rattle.std.proofs.Common.{rules, tests, ◌≡◌, ◌+◌, ◌-◌, ◌∙◌, not, ltb, arith}
+use Rattle.std.proofs.lemmas.Iterator.{YieldsList-from_range}
+use Rattle.std.proofs.lemmas.Iterator.Search.{find_from_yields_List}
 use Rattle.reading.specs.Word.{byte}
-use Rattle.reading.specs.Header.{constants, atom_places, variables}
+use Rattle.reading.specs.Header.{variables}
 use Rattle.reading.specs.Refusals.{place_allowed}
-use Rattle.reading.specs.Verdict.{told}
 use Rattle.reading.proofs.Forms.{form_known}
-use Rattle.judging.proofs.JudgingSteps.{place_end, place_wrong, place_right}
+use Rattle.judging.proofs.FirstFound.{place_told}
 use Rattle.judging.proofs.judge.wrong_place.Goals as goal
-
--- what the test of the byte says, by the byte x and the numbers k and c of variables and constants
-tested : (B : List ℕ) (i : ℕ) (now : Bool) {n k c x : ℕ} {t b : Bool} → n ≡ atom_places B → k ≡ 8 * n
-    → c ≡ constants B → x ≡ byte B i → t ≡ place_allowed k c now x → t ≡ b
-    → place_allowed (variables B) (constants B) now (byte B i) ≡ b
-tested B i now {n} {k} places many few is e d =
-    let same : k ≡ variables B = omega (arith, (form_known B).variables_are) in cc
 
 pub variables-k-requires : goal.variables-k-requires
 variables-k-requires c = omega (arith, c.requires.1, (form_known c.args.book.now).few_places)
 
-pub returns-then-not-allowed : goal.returns-then-not-allowed
-returns-then-not-allowed c =
-    let e = tested c.args.book.now (c.args.i + c.loop-w.w) (ltb c.loop-w.w c.args.used) c.requires.1
-    c.variables-k.ensures c.requires.3 c.from.ensures c.allowed.ensures c.if-not-allowed.true in
-    ap (told 7) (sym (c.loop-w.invariant ∙ place_wrong _ _ _ _ _ c.loop-w-test.true e))
-
-pub loop-w-preserved : goal.loop-w-preserved
-loop-w-preserved c =
-    let e = tested c.args.book.now (c.args.i + c.loop-w.w) (ltb c.loop-w.w c.args.used) c.requires.1
-    c.variables-k.ensures c.requires.3 c.from.ensures c.allowed.ensures c.if-not-allowed.false in
-    c.loop-w.invariant ∙ place_right _ _ _ _ _ c.loop-w-test.true e
-
 pub returns : goal.returns
-returns c = ap (told 7) (sym (c.loop-w.invariant ∙ place_end _ _ _ _ _ c.loop-w-test.false))
+returns c =
+    let a = c.args in
+    let B = a.book.now in
+    let k = c.variables-k.result in
+    let many : k ≡ variables B = omega (arith, c.variables-k.ensures, c.requires.1, (form_known B).variables_are) in
+    c.refused_at.ensures
+    ∙ place_told B a.i a.n c.find-wrong.result a.used k a.c many c.requires.3
+    (find_from_yields_List (λ j. not (place_allowed k a.c (ltb (j - a.i) a.used) (byte B j))) _ _ _ c.find-wrong.ensures.ran
+    (YieldsList-from_range a.i (a.i + a.n) a.n (search rules) (omega arith)) (λ x b q k. search (rules, tests)))
