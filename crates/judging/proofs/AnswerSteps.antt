@@ -5,19 +5,17 @@ use mathlib.Core.Bool.{Bool, true, false, ◌||◌}
 use mathlib.Core.Logic.{◌⊎◌, inl, inr}
 use mathlib.Core.List.{List}
 use mathlib.Core.Option.{none, some}
-use Prim.Native.Nat.{ℕ, suc, ◌+◌, ◌-◌, ◌≤◌, ◌<◌}
+use Prim.Native.Nat.{ℕ, ◌+◌, ◌-◌, ◌≤◌, ◌<◌}
 use native.Mathlib.Nat.{sub-eq-zero_of_le}
 use native.Mathlib.Omega.{arith}
 use borrow.Author.Tests.{eq-eqb, ne_eqb, lt-ltb, le-ltb}
-use lib.Dec.{eqb}
 use Rattle.covering.specs.Lists.{any}
 use Rattle.covering.specs.Term.{Term, var, Question, terms, eq_term}
 use Rattle.covering.specs.Asking.{answer_relation, answer_most}
-use Rattle.covering.specs.Record.{holding, size, term_of, args_at, atoms_at}
-use Rattle.covering.proofs.Tests.{either, one_more, true→T}
+use Rattle.covering.specs.Record.{holding, size, args_at, atoms_at}
+use Rattle.covering.proofs.Tests.{either, true→T}
 use Rattle.covering.proofs.Lists.{any_append}
-use Rattle.covering.proofs.Bytes.{term_var, term_same, args_more, args_end}
-use Rattle.covering.proofs.Places.{args_none, atoms_none, terms_first}
+use Rattle.covering.proofs.Places.{atoms_none, terms_first}
 use Rattle.reading.specs.Word.{byte}
 use Rattle.reading.specs.Header.{atoms, question_at, atom_places, announced, answer_records}
 use Rattle.reading.specs.Header.{question_atoms_at}
@@ -32,20 +30,6 @@ abbrev has : ℕ → List Term → Bool
 has b ts = any (eq_term (var b)) ts
 
 module _ (B : List ℕ) where
-  -- the used places
-  pub used_end : (i n w : ℕ) → n ≤ w → used_places B i (n - w) ≡ 0
-  unfolding used_places
-  used_end i n w h = rw (sub-eq-zero_of_le h)
-
-  pub used_stop : (i n w : ℕ) → w < n → byte B i ≡ 255 → used_places B i (n - w) ≡ 0
-  unfolding used_places
-  used_stop i n w h e = rw (one_more n w h, used_places, eq-eqb (byte B i) 255 e)
-
-  pub used_next : (i n w : ℕ) → w < n → (byte B i ≡ 255 → ⊥)
-      → used_places B i (n - w) ≡ suc (used_places B (i + 1) (n - (w + 1)))
-  unfolding used_places
-  used_next i n w h f = rw (one_more n w h, used_places, ne_eqb (byte B i) 255 f)
-
   -- the answer record
   pub answer_wrong : (i : ℕ) → (byte B i ≡ answer_relation → ⊥) → wrong_answer B i ≡ some i
   unfolding wrong_answer
@@ -107,31 +91,6 @@ module _ (B : List ℕ) where
     where
       after : question_atoms_at B ≡ q + 1 + w
       after = omega (arith, atoms_after B (true→T _ t))
-
-  -- a variable among the places of an atom
-  module _ (b i w n : ℕ) where
-    pub has_end : n ≤ w → has b (args_at B (i + w) (n - w)) ≡ false
-    has_end h = rw (sub-eq-zero_of_le h, args_none)
-
-    module _ (h : w < n) where
-      pub has_stop : byte B (i + w) ≡ 255 → has b (args_at B (i + w) (n - w)) ≡ false
-      has_stop e = ap (has b) (args_end B i w n h e)
-
-      -- the place is the variable's, or the places after it have it
-      has_more : b < 128 → (byte B (i + w) ≡ 255 → ⊥)
-          → has b (args_at B (i + w) (n - w)) ≡ eqb b (byte B (i + w)) || has b (args_at B (i + (w + 1)) (n - (w + 1)))
-      has_more l f =
-          ap (has b) (args_more B i w n h f)
-          ∙ ap (λ (x : Bool). x || has b (args_at B (i + (w + 1)) (n - (w + 1))))
-          (ap (λ (t : Term). eq_term t (term_of (byte B (i + w)))) (sym (term_var b (omega arith)))
-          ∙ term_same b (byte B (i + w)))
-
-      pub has_found : b < 128 → byte B (i + w) ≡ b → has b (args_at B (i + w) (n - w)) ≡ true
-      has_found l e = has_more l (λ d. omega arith) ∙ rw (eq-eqb b (byte B (i + w)) (sym e))
-
-      pub has_next : b < 128 → (byte B (i + w) ≡ 255 → ⊥) → (byte B (i + w) ≡ b → ⊥)
-          → has b (args_at B (i + w) (n - w)) ≡ has b (args_at B (i + (w + 1)) (n - (w + 1)))
-      has_next l f g = has_more l f ∙ rw (ne_eqb b (byte B (i + w)) (λ e. g (sym e)))
 
   -- among the atoms, of p places
   module _ (b p i n k : ℕ) where

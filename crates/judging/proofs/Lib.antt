@@ -3,3 +3,4 @@ pub mod JudgingSteps
 pub mod AnswerSteps
 pub mod JudgedHeader
 pub mod FirstFound
+pub mod Taken

@@ -17,12 +17,9 @@ pub fn used_places(book: &[u8], i: usize, n: usize) -> usize
     requires { i + n ≤ length book.now }
     ensures { result ≡ used_places book.now i n }
 {
-    for w in 0..n {
-        if usize::from(book[i + w]) == UNUSED {
-            return w;
-        }
-    }
-    n
+    (i..i + n)
+        .take_while(|at| usize::from(book[*at]) != UNUSED)
+        .count()
 }
 
 // Whether the variable b stands in a used place among the n from i on.
@@ -30,16 +27,9 @@ fn stands_at(book: &[u8], i: usize, n: usize, b: usize) -> bool
     requires { (i + n ≤ length book.now) × (b < 128) }
     ensures { result ≡ any (eq_term (var b)) (args_at book.now i n) }
 {
-    for w in 0..n {
-        let x = usize::from(book[i + w]);
-        if x == UNUSED {
-            return false;
-        }
-        if x == b {
-            return true;
-        }
-    }
-    false
+    (i..i + n)
+        .take_while(|at| usize::from(book[*at]) != UNUSED)
+        .any(|at| b == usize::from(book[at]))
 }
 
 // Whether the byte b is no variable, or stands in one of the n atoms of w places from i on.

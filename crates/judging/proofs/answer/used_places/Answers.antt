@@ -1,23 +1,16 @@
--- The places passed are used, so that those used are they and the used ones among those left. Assumes nothing.
-use Rattle.std.proofs.Common.{◌≡◌, ◌+◌, ◌-◌, ℕ, sym, ◌∙◌, ap, arith}
-use Rattle.reading.specs.Refusals.{used_places}
-use Rattle.judging.proofs.AnswerSteps.{used_end, used_stop, used_next}
+-- Those counted are the places before the first 255. Assumes nothing.
+use Rattle.std.proofs.Common.{rules, tests, ◌+◌, ◌∙◌, arith}
+use Rattle.std.proofs.lemmas.Iterator.{YieldsList-from_range}
+use Rattle.std.proofs.lemmas.Iterator.Search.{YieldsList-from_take_while}
+use Rattle.std.proofs.lemmas.Iterator.Consumers.{count_from_yields_List}
+use Rattle.judging.proofs.Taken.{is_used, used_taken}
 use Rattle.judging.proofs.answer.used_places.Goals as goal
 
-pub returns-then-from-eq-UNUSED : goal.returns-then-from-eq-UNUSED
-returns-then-from-eq-UNUSED c =
-    let e = used_stop c.args.book.now (c.args.i + c.loop-w.w) c.args.n c.loop-w.w c.loop-w-test.true
-    (sym c.from.ensures ∙ c.if-from-eq-UNUSED.true) in
-    omega (arith, e)
-
-pub loop-w-preserved : goal.loop-w-preserved
-loop-w-preserved c =
-    let B = c.args.book.now in
-    let at = c.args.i + c.loop-w.w in
-    let e = used_next B at c.args.n c.loop-w.w c.loop-w-test.true
-    (λ d. c.if-from-eq-UNUSED.false (c.from.ensures ∙ d)) in
-    let on : at + 1 ≡ c.args.i + (c.loop-w.w + 1) = omega arith in
-    omega (arith, e, ap (λ (j : ℕ). used_places B j (c.args.n - (c.loop-w.w + 1))) on)
-
 pub returns : goal.returns
-returns c = omega (arith, used_end c.args.book.now (c.args.i + c.loop-w.w) c.args.n c.loop-w.w c.loop-w-test.false)
+returns c =
+    let a = c.args in
+    count_from_yields_List _ _ c.count.ensures.ran
+    (YieldsList-from_take_while _ (is_used a.book.now)
+    (YieldsList-from_range a.i (a.i + a.n) a.n (search rules) (omega arith))
+    c.take_while.ensures.closure c.take_while.ensures.done (λ x b q k. search (rules, tests)))
+    ∙ used_taken a.book.now a.i a.n
