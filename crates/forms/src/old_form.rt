@@ -61,7 +61,7 @@ fn late_in_rules(book: &[u8], h: Header) -> Result<(), Refused>
     let n = h.rules;
     let w = h.places;
     let mut s = h.start;
-    for k in 0..n {
+    for _rule in 0..n {
         let m = usize::from(book[s]) + usize::from(book[s + 1]);
         late_in_atoms(book, s + 2, m, w)?;
         s += 2 + (1 + w) * m;

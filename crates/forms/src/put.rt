@@ -85,7 +85,7 @@ fn put_rules(book: &[u8], h: Header, out: &mut [u8], at: usize, form: Form) -> u
     let w = h.places;
     let mut s = h.start;
     let mut end = at;
-    for k in 0..n {
+    for _rule in 0..n {
         end = put_rule(book, s, w, out, end, form);
         s += 2 + (1 + w) * (usize::from(book[s]) + usize::from(book[s + 1]));
     }

@@ -61,7 +61,7 @@ impl<'a> Headed<'a> {
         let book = self.book;
         let w = self.header.places;
         let mut s = start;
-        for k in 0..n {
+        for _rule in 0..n {
             let m = usize::from(book[s]) + usize::from(book[s + 1]);
             self.wrong_in_atoms(s + 2, m)?;
             s += 2 + atoms_size(w, m);

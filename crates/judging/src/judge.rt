@@ -42,7 +42,7 @@ pub fn wrong_rule(book: &[u8], start: usize, n: usize, end: usize, w: usize) -> 
     ensures { judged result ≡ told 6 (wrong_rule book.now end start n) }
 {
     let mut s = start;
-    for k in 0..n {
+    for _rule in 0..n {
         let Some(next) = rule_end(book, s, end, w) else {
             return Err(Refused {
                 reason: Reason::WrongRule,

@@ -37,19 +37,19 @@ module _ (B : List ℕ) (sound : SoundBook B) {h : Header} (is : h ≡ header_of
     starts = next ∙ ap (rule_end B) at ∙ sym (after_next B (rules_start B) k)
 
 pub bounds-book-s : goal.bounds-book-s
-bounds-book-s c = omega (arith, within _ c.requires.0 c.requires.1 _ c.loop-k-test.true c.loop-k.invariant.0)
+bounds-book-s c = omega (arith, within _ c.requires.0 c.requires.1 _ c.loop-rule-test.true c.loop-rule.invariant.0)
 
 pub overflow_add-s : goal.overflow_add-s
-overflow_add-s c = omega (arith, within _ c.requires.0 c.requires.1 _ c.loop-k-test.true c.loop-k.invariant.0)
+overflow_add-s c = omega (arith, within _ c.requires.0 c.requires.1 _ c.loop-rule-test.true c.loop-rule.invariant.0)
 
-pub bounds-book-s-in-loop-k : goal.bounds-book-s-in-loop-k
-bounds-book-s-in-loop-k c = omega (arith, within _ c.requires.0 c.requires.1 _ c.loop-k-test.true c.loop-k.invariant.0)
+pub bounds-book-s-in-loop-rule : goal.bounds-book-s-in-loop-rule
+bounds-book-s-in-loop-rule c = omega (arith, within _ c.requires.0 c.requires.1 _ c.loop-rule-test.true c.loop-rule.invariant.0)
 
-pub overflow_add-s-in-loop-k : goal.overflow_add-s-in-loop-k
-overflow_add-s-in-loop-k c = omega (arith, within _ c.requires.0 c.requires.1 _ c.loop-k-test.true c.loop-k.invariant.0)
+pub overflow_add-s-in-loop-rule : goal.overflow_add-s-in-loop-rule
+overflow_add-s-in-loop-rule c = omega (arith, within _ c.requires.0 c.requires.1 _ c.loop-rule-test.true c.loop-rule.invariant.0)
 
-pub loop-k-init : goal.loop-k-init
-loop-k-init c =
+pub loop-rule-init : goal.loop-rule-init
+loop-rule-init c =
     let B = c.args.book.now in
     let k = headed B c.requires.0 c.requires.1 in
     let all : rules B ≡ c.args.h.rules - 0 = omega (arith, k.rules_are) in
@@ -58,52 +58,52 @@ loop-k-init c =
 pub late_in_atoms-requires : goal.late_in_atoms-requires
 late_in_atoms-requires c =
     let B = c.args.book.now in
-    let w = within B c.requires.0 c.requires.1 _ c.loop-k-test.true c.loop-k.invariant.0 in
-    let e = ends B c.requires.0 c.requires.1 _ c.loop-k-test.true c.loop-k.invariant.0 c.from.ensures c.from-in-loop-k.ensures in
+    let w = within B c.requires.0 c.requires.1 _ c.loop-rule-test.true c.loop-rule.invariant.0 in
+    let e = ends B c.requires.0 c.requires.1 _ c.loop-rule-test.true c.loop-rule.invariant.0 c.from.ensures c.from-in-loop-rule.ensures in
     ((headed B c.requires.0 c.requires.1).places_are, omega (arith, w, e))
 
 pub returns-in_err-late_in_atoms : goal.returns-in_err-late_in_atoms
 returns-in_err-late_in_atoms c =
-    let d = atoms _ c.requires.0 c.requires.1 _ c.loop-k-test.true c.loop-k.invariant.0 c.from.ensures c.from-in-loop-k.ensures in
+    let d = atoms _ c.requires.0 c.requires.1 _ c.loop-rule-test.true c.loop-rule.invariant.0 c.from.ensures c.from-in-loop-rule.ensures in
     handed _ _ c.from_residual.ensures.1 (stops_else 13 _ _ _ (c.in_err-late_in_atoms.ensures ∙ d))
-    ∙ ap (told 13) (sym (c.loop-k.invariant.1 ∙ rules_more _ _ _ _ c.loop-k-test.true))
+    ∙ ap (told 13) (sym (c.loop-rule.invariant.1 ∙ rules_more _ _ _ _ c.loop-rule-test.true))
 
 pub overflow_mul-s : goal.overflow_mul-s
 overflow_mul-s c =
     let B = c.args.book.now in
-    let w = within B c.requires.0 c.requires.1 _ c.loop-k-test.true c.loop-k.invariant.0 in
-    let e = ends B c.requires.0 c.requires.1 _ c.loop-k-test.true c.loop-k.invariant.0 c.from.ensures c.from-in-loop-k.ensures in
+    let w = within B c.requires.0 c.requires.1 _ c.loop-rule-test.true c.loop-rule.invariant.0 in
+    let e = ends B c.requires.0 c.requires.1 _ c.loop-rule-test.true c.loop-rule.invariant.0 c.from.ensures c.from-in-loop-rule.ensures in
     omega (arith, w, e)
 
-pub overflow_add-s-in-loop-k-3 : goal.overflow_add-s-in-loop-k-3
-overflow_add-s-in-loop-k-3 c =
+pub overflow_add-s-in-loop-rule-3 : goal.overflow_add-s-in-loop-rule-3
+overflow_add-s-in-loop-rule-3 c =
     let B = c.args.book.now in
-    let w = within B c.requires.0 c.requires.1 _ c.loop-k-test.true c.loop-k.invariant.0 in
-    let e = ends B c.requires.0 c.requires.1 _ c.loop-k-test.true c.loop-k.invariant.0 c.from.ensures c.from-in-loop-k.ensures in
+    let w = within B c.requires.0 c.requires.1 _ c.loop-rule-test.true c.loop-rule.invariant.0 in
+    let e = ends B c.requires.0 c.requires.1 _ c.loop-rule-test.true c.loop-rule.invariant.0 c.from.ensures c.from-in-loop-rule.ensures in
     omega (arith, w, e)
 
-pub overflow_add-s-in-loop-k-4 : goal.overflow_add-s-in-loop-k-4
-overflow_add-s-in-loop-k-4 c =
+pub overflow_add-s-in-loop-rule-4 : goal.overflow_add-s-in-loop-rule-4
+overflow_add-s-in-loop-rule-4 c =
     let B = c.args.book.now in
-    let w = within B c.requires.0 c.requires.1 _ c.loop-k-test.true c.loop-k.invariant.0 in
-    let e = ends B c.requires.0 c.requires.1 _ c.loop-k-test.true c.loop-k.invariant.0 c.from.ensures c.from-in-loop-k.ensures in
+    let w = within B c.requires.0 c.requires.1 _ c.loop-rule-test.true c.loop-rule.invariant.0 in
+    let e = ends B c.requires.0 c.requires.1 _ c.loop-rule-test.true c.loop-rule.invariant.0 c.from.ensures c.from-in-loop-rule.ensures in
     omega (arith, w, e)
 
-pub overflow_add-s-in-loop-k-2 : goal.overflow_add-s-in-loop-k-2
-overflow_add-s-in-loop-k-2 c =
+pub overflow_add-s-in-loop-rule-2 : goal.overflow_add-s-in-loop-rule-2
+overflow_add-s-in-loop-rule-2 c =
     omega (arith, (headed _ c.requires.0 c.requires.1).places_are, (form_known c.args.book.now).few_places)
 
-pub loop-k-preserved : goal.loop-k-preserved
-loop-k-preserved c =
+pub loop-rule-preserved : goal.loop-rule-preserved
+loop-rule-preserved c =
     let B = c.args.book.now in
-    let d = atoms B c.requires.0 c.requires.1 _ c.loop-k-test.true c.loop-k.invariant.0 c.from.ensures c.from-in-loop-k.ensures in
-    let on = next B c.requires.0 c.requires.1 _ c.loop-k-test.true c.loop-k.invariant.0 c.from.ensures c.from-in-loop-k.ensures in (
-      starts B c.requires.0 c.requires.1 _ c.loop-k-test.true c.loop-k.invariant.0 c.from.ensures c.from-in-loop-k.ensures,
-      c.loop-k.invariant.1
-          ∙ rules_more _ _ _ _ c.loop-k-test.true
+    let d = atoms B c.requires.0 c.requires.1 _ c.loop-rule-test.true c.loop-rule.invariant.0 c.from.ensures c.from-in-loop-rule.ensures in
+    let on = next B c.requires.0 c.requires.1 _ c.loop-rule-test.true c.loop-rule.invariant.0 c.from.ensures c.from-in-loop-rule.ensures in (
+      starts B c.requires.0 c.requires.1 _ c.loop-rule-test.true c.loop-rule.invariant.0 c.from.ensures c.from-in-loop-rule.ensures,
+      c.loop-rule.invariant.1
+          ∙ rules_more _ _ _ _ c.loop-rule-test.true
           ∙ passes_else 13 _ _ (omega arith) (c.in_ok-late_in_atoms.ensures ∙ d)
-          ∙ ap (λ (s : ℕ). late_in_rules B s (c.args.h.rules - (c.loop-k.k + 1))) (sym on),
+          ∙ ap (λ (s : ℕ). late_in_rules B s (c.args.h.rules - (c.loop-rule._rule + 1))) (sym on),
     )
 
 pub returns : goal.returns
-returns c = ap (told 13) (sym (c.loop-k.invariant.1 ∙ rules_end _ _ _ _ c.loop-k-test.false))
+returns c = ap (told 13) (sym (c.loop-rule.invariant.1 ∙ rules_end _ _ _ _ c.loop-rule-test.false))

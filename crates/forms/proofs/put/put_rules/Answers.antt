@@ -20,28 +20,28 @@ module _ {B : List ℕ} {f : BookForm} (ready : BookReady B f) {h : Header} (is 
       let n : x + y ≡ byte B s + byte B (s + 1) = omega arith in
       ap₂ (λ (w m : ℕ). s + (2 + (1 + w) * m)) (headed B ready.sound is).places_are n ∙ omega arith
 
-pub loop-k-init : goal.loop-k-init
-loop-k-init c = rules_begin _ _ _ _ c.requires.2 (headed _ c.requires.0.sound c.requires.1).start_is
+pub loop-rule-init : goal.loop-rule-init
+loop-rule-init c = rules_begin _ _ _ _ c.requires.2 (headed _ c.requires.0.sound c.requires.1).start_is
 
 pub put_rule-end-requires : goal.put_rule-end-requires
 put_rule-end-requires c =
-    let l = more c.requires.0 c.requires.1 c.loop-k-test.true in (
-      next_ready _ _ _ _ c.loop-k.invariant l c.requires.0,
+    let l = more c.requires.0 c.requires.1 c.loop-rule-test.true in (
+      next_ready _ _ _ _ c.loop-rule.invariant l c.requires.0,
       (headed _ c.requires.0.sound c.requires.1).places_are,
-      next_room _ _ _ _ c.loop-k.invariant l,
+      next_room _ _ _ _ c.loop-rule.invariant l,
     )
 
 pub bounds-book-s : goal.bounds-book-s
-bounds-book-s c = omega (arith, (next_ready _ _ _ _ c.loop-k.invariant (more c.requires.0 c.requires.1 c.loop-k-test.true) c.requires.0).head.fits)
+bounds-book-s c = omega (arith, (next_ready _ _ _ _ c.loop-rule.invariant (more c.requires.0 c.requires.1 c.loop-rule-test.true) c.requires.0).head.fits)
 
-pub overflow_add-s-in-loop-k-2 : goal.overflow_add-s-in-loop-k-2
-overflow_add-s-in-loop-k-2 c = omega (arith, (next_ready _ _ _ _ c.loop-k.invariant (more c.requires.0 c.requires.1 c.loop-k-test.true) c.requires.0).head.fits)
+pub overflow_add-s-in-loop-rule-2 : goal.overflow_add-s-in-loop-rule-2
+overflow_add-s-in-loop-rule-2 c = omega (arith, (next_ready _ _ _ _ c.loop-rule.invariant (more c.requires.0 c.requires.1 c.loop-rule-test.true) c.requires.0).head.fits)
 
-pub bounds-book-s-in-loop-k : goal.bounds-book-s-in-loop-k
-bounds-book-s-in-loop-k c = omega (arith, (next_ready _ _ _ _ c.loop-k.invariant (more c.requires.0 c.requires.1 c.loop-k-test.true) c.requires.0).head.fits)
+pub bounds-book-s-in-loop-rule : goal.bounds-book-s-in-loop-rule
+bounds-book-s-in-loop-rule c = omega (arith, (next_ready _ _ _ _ c.loop-rule.invariant (more c.requires.0 c.requires.1 c.loop-rule-test.true) c.requires.0).head.fits)
 
-pub overflow_add-s-in-loop-k : goal.overflow_add-s-in-loop-k
-overflow_add-s-in-loop-k c = omega (arith, (next_ready _ _ _ _ c.loop-k.invariant (more c.requires.0 c.requires.1 c.loop-k-test.true) c.requires.0).head.fits)
+pub overflow_add-s-in-loop-rule : goal.overflow_add-s-in-loop-rule
+overflow_add-s-in-loop-rule c = omega (arith, (next_ready _ _ _ _ c.loop-rule.invariant (more c.requires.0 c.requires.1 c.loop-rule-test.true) c.requires.0).head.fits)
 
 pub overflow_add-s : goal.overflow_add-s
 overflow_add-s c =
@@ -49,24 +49,24 @@ overflow_add-s c =
 
 pub overflow_mul-s : goal.overflow_mul-s
 overflow_mul-s c =
-    omega (arith, (next_ready _ _ _ _ c.loop-k.invariant (more c.requires.0 c.requires.1 c.loop-k-test.true) c.requires.0).head.fits, ends c.requires.0 c.requires.1 c.loop-k.s c.from.ensures c.from-in-loop-k.ensures)
+    omega (arith, (next_ready _ _ _ _ c.loop-rule.invariant (more c.requires.0 c.requires.1 c.loop-rule-test.true) c.requires.0).head.fits, ends c.requires.0 c.requires.1 c.loop-rule.s c.from.ensures c.from-in-loop-rule.ensures)
 
-pub overflow_add-s-in-loop-k-4 : goal.overflow_add-s-in-loop-k-4
-overflow_add-s-in-loop-k-4 c =
-    omega (arith, (next_ready _ _ _ _ c.loop-k.invariant (more c.requires.0 c.requires.1 c.loop-k-test.true) c.requires.0).head.fits, ends c.requires.0 c.requires.1 c.loop-k.s c.from.ensures c.from-in-loop-k.ensures)
+pub overflow_add-s-in-loop-rule-4 : goal.overflow_add-s-in-loop-rule-4
+overflow_add-s-in-loop-rule-4 c =
+    omega (arith, (next_ready _ _ _ _ c.loop-rule.invariant (more c.requires.0 c.requires.1 c.loop-rule-test.true) c.requires.0).head.fits, ends c.requires.0 c.requires.1 c.loop-rule.s c.from.ensures c.from-in-loop-rule.ensures)
 
-pub overflow_add-s-in-loop-k-3 : goal.overflow_add-s-in-loop-k-3
-overflow_add-s-in-loop-k-3 c =
-    omega (arith, (next_ready _ _ _ _ c.loop-k.invariant (more c.requires.0 c.requires.1 c.loop-k-test.true) c.requires.0).head.fits, ends c.requires.0 c.requires.1 c.loop-k.s c.from.ensures c.from-in-loop-k.ensures)
+pub overflow_add-s-in-loop-rule-3 : goal.overflow_add-s-in-loop-rule-3
+overflow_add-s-in-loop-rule-3 c =
+    omega (arith, (next_ready _ _ _ _ c.loop-rule.invariant (more c.requires.0 c.requires.1 c.loop-rule-test.true) c.requires.0).head.fits, ends c.requires.0 c.requires.1 c.loop-rule.s c.from.ensures c.from-in-loop-rule.ensures)
 
-pub loop-k-preserved : goal.loop-k-preserved
-loop-k-preserved c =
-    rules_step _ _ _ _ c.loop-k.invariant (more c.requires.0 c.requires.1 c.loop-k-test.true)
-    (ends c.requires.0 c.requires.1 c.loop-k.s c.from.ensures c.from-in-loop-k.ensures) c.put_rule-end.ensures
+pub loop-rule-preserved : goal.loop-rule-preserved
+loop-rule-preserved c =
+    rules_step _ _ _ _ c.loop-rule.invariant (more c.requires.0 c.requires.1 c.loop-rule-test.true)
+    (ends c.requires.0 c.requires.1 c.loop-rule.s c.from.ensures c.from-in-loop-rule.ensures) c.put_rule-end.ensures
 
 pub shape_of-out : goal.shape_of-out
-shape_of-out c = same_room _ _ _ _ c.loop-k.invariant
+shape_of-out c = same_room _ _ _ _ c.loop-rule.invariant
 
 pub returns : goal.returns
 returns c =
-    rules_end _ _ _ _ c.loop-k.invariant (omega (arith, (headed _ c.requires.0.sound c.requires.1).rules_are))
+    rules_end _ _ _ _ c.loop-rule.invariant (omega (arith, (headed _ c.requires.0.sound c.requires.1).rules_are))

@@ -3,5 +3,5 @@ use Rattle.std.proofs.Common.{◌≡◌, ◌-◌, ◌≤◌}
 use Rattle.reading.specs.Verdict.{wrong_rule}
 use Rattle.judging.proofs.judge.wrong_rule.Given as goal
 
-abbrev pub invariant-loop-k : goal.invariant-loop-k
-invariant-loop-k l = (l.s ≤ l.end) × (wrong_rule l.book l.end l.start l.n ≡ wrong_rule l.book l.end l.s (l.n - l.k))
+abbrev pub invariant-loop-rule : goal.invariant-loop-rule
+invariant-loop-rule l = (l.s ≤ l.end) × (wrong_rule l.book l.end l.start l.n ≡ wrong_rule l.book l.end l.s (l.n - l._rule))

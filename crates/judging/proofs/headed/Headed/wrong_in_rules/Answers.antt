@@ -35,69 +35,69 @@ module _ {B : List ℕ} {h : Header} (r : HeaderRight B h) (e s n k : ℕ) (l : 
 pub bounds-book-s : goal.bounds-book-s
 bounds-book-s c =
     let a = c.args in
-    let r = rule a.self.right a.end c.loop-k.s a.n c.loop-k.k c.loop-k-test.true c.loop-k.invariant.0 in
+    let r = rule a.self.right a.end c.loop-rule.s a.n c.loop-rule._rule c.loop-rule-test.true c.loop-rule.invariant.0 in
     omega (arith, r.ends)
 
 pub overflow_add-s : goal.overflow_add-s
 overflow_add-s c =
     let a = c.args in
-    let r = rule a.self.right a.end c.loop-k.s a.n c.loop-k.k c.loop-k-test.true c.loop-k.invariant.0 in
+    let r = rule a.self.right a.end c.loop-rule.s a.n c.loop-rule._rule c.loop-rule-test.true c.loop-rule.invariant.0 in
     omega (arith, r.ends)
 
-pub bounds-book-s-in-loop-k : goal.bounds-book-s-in-loop-k
-bounds-book-s-in-loop-k c =
+pub bounds-book-s-in-loop-rule : goal.bounds-book-s-in-loop-rule
+bounds-book-s-in-loop-rule c =
     let a = c.args in
-    let r = rule a.self.right a.end c.loop-k.s a.n c.loop-k.k c.loop-k-test.true c.loop-k.invariant.0 in
+    let r = rule a.self.right a.end c.loop-rule.s a.n c.loop-rule._rule c.loop-rule-test.true c.loop-rule.invariant.0 in
     omega (arith, r.ends)
 
-pub overflow_add-s-in-loop-k : goal.overflow_add-s-in-loop-k
-overflow_add-s-in-loop-k c =
+pub overflow_add-s-in-loop-rule : goal.overflow_add-s-in-loop-rule
+overflow_add-s-in-loop-rule c =
     let a = c.args in
-    let r = rule a.self.right a.end c.loop-k.s a.n c.loop-k.k c.loop-k-test.true c.loop-k.invariant.0 in
+    let r = rule a.self.right a.end c.loop-rule.s a.n c.loop-rule._rule c.loop-rule-test.true c.loop-rule.invariant.0 in
     omega (arith, r.ends)
 
 pub wrong_in_atoms-requires : goal.wrong_in_atoms-requires
 wrong_in_atoms-requires c =
     let a = c.args in
-    let r = rule a.self.right a.end c.loop-k.s a.n c.loop-k.k c.loop-k-test.true c.loop-k.invariant.0 in
-    let e = ends a.self.right a.end c.loop-k.s a.n c.loop-k.k c.loop-k-test.true c.loop-k.invariant.0
-    c.from.ensures c.from-in-loop-k.ensures in
+    let r = rule a.self.right a.end c.loop-rule.s a.n c.loop-rule._rule c.loop-rule-test.true c.loop-rule.invariant.0 in
+    let e = ends a.self.right a.end c.loop-rule.s a.n c.loop-rule._rule c.loop-rule-test.true c.loop-rule.invariant.0
+    c.from.ensures c.from-in-loop-rule.ensures in
     omega (arith, r.ends, e)
 
 pub returns-in_err-wrong_in_atoms : goal.returns-in_err-wrong_in_atoms
 returns-in_err-wrong_in_atoms c =
     let a = c.args in
-    let d = atoms a.self.right a.end c.loop-k.s a.n c.loop-k.k c.loop-k-test.true c.loop-k.invariant.0
-    c.from.ensures c.from-in-loop-k.ensures in
+    let d = atoms a.self.right a.end c.loop-rule.s a.n c.loop-rule._rule c.loop-rule-test.true c.loop-rule.invariant.0
+    c.from.ensures c.from-in-loop-rule.ensures in
     handed _ _ c.from_residual.ensures.1 (stops_else 7 _ _ _ (c.in_err-wrong_in_atoms.ensures ∙ d))
-    ∙ ap (told 7) (sym (c.loop-k.invariant.1 ∙ bytes_more _ _ _ _ c.loop-k-test.true))
+    ∙ ap (told 7) (sym (c.loop-rule.invariant.1 ∙ bytes_more _ _ _ _ c.loop-rule-test.true))
 
 pub atoms_size-requires : goal.atoms_size-requires
 atoms_size-requires c = (few_places c.args.self.right, omega arith)
 
-pub overflow_add-s-in-loop-k-3 : goal.overflow_add-s-in-loop-k-3
-overflow_add-s-in-loop-k-3 c =
+pub overflow_add-s-in-loop-rule-3 : goal.overflow_add-s-in-loop-rule-3
+overflow_add-s-in-loop-rule-3 c =
     let a = c.args in
-    let r = rule a.self.right a.end c.loop-k.s a.n c.loop-k.k c.loop-k-test.true c.loop-k.invariant.0 in
-    let e = next a.self.right a.end c.loop-k.s a.n c.loop-k.k c.loop-k-test.true c.loop-k.invariant.0
-    c.from.ensures c.from-in-loop-k.ensures c.atoms_size.ensures.0 in
+    let r = rule a.self.right a.end c.loop-rule.s a.n c.loop-rule._rule c.loop-rule-test.true c.loop-rule.invariant.0 in
+    let e = next a.self.right a.end c.loop-rule.s a.n c.loop-rule._rule c.loop-rule-test.true c.loop-rule.invariant.0
+    c.from.ensures c.from-in-loop-rule.ensures c.atoms_size.ensures.0 in
     omega (arith, r.ends, e)
 
-pub loop-k-preserved : goal.loop-k-preserved
-loop-k-preserved c =
+pub loop-rule-preserved : goal.loop-rule-preserved
+loop-rule-preserved c =
     let a = c.args in
     let B = a.self.book.now in
-    let d = atoms a.self.right a.end c.loop-k.s a.n c.loop-k.k c.loop-k-test.true c.loop-k.invariant.0
-    c.from.ensures c.from-in-loop-k.ensures in
-    let r = rule a.self.right a.end c.loop-k.s a.n c.loop-k.k c.loop-k-test.true c.loop-k.invariant.0 in
-    let on = next a.self.right a.end c.loop-k.s a.n c.loop-k.k c.loop-k-test.true c.loop-k.invariant.0
-    c.from.ensures c.from-in-loop-k.ensures c.atoms_size.ensures.0 in (
-      ap (λ (s : ℕ). wrong_rule B a.end s (a.n - (c.loop-k.k + 1))) on ∙ r.rest,
-      c.loop-k.invariant.1
-          ∙ bytes_more _ _ _ _ c.loop-k-test.true
+    let d = atoms a.self.right a.end c.loop-rule.s a.n c.loop-rule._rule c.loop-rule-test.true c.loop-rule.invariant.0
+    c.from.ensures c.from-in-loop-rule.ensures in
+    let r = rule a.self.right a.end c.loop-rule.s a.n c.loop-rule._rule c.loop-rule-test.true c.loop-rule.invariant.0 in
+    let on = next a.self.right a.end c.loop-rule.s a.n c.loop-rule._rule c.loop-rule-test.true c.loop-rule.invariant.0
+    c.from.ensures c.from-in-loop-rule.ensures c.atoms_size.ensures.0 in (
+      ap (λ (s : ℕ). wrong_rule B a.end s (a.n - (c.loop-rule._rule + 1))) on ∙ r.rest,
+      c.loop-rule.invariant.1
+          ∙ bytes_more _ _ _ _ c.loop-rule-test.true
           ∙ passes_else 7 _ _ (omega arith) (c.in_ok-wrong_in_atoms.ensures ∙ d)
-          ∙ ap (λ (s : ℕ). wrong_in_rules B s (a.n - (c.loop-k.k + 1))) (sym on),
+          ∙ ap (λ (s : ℕ). wrong_in_rules B s (a.n - (c.loop-rule._rule + 1))) (sym on),
     )
 
 pub returns : goal.returns
-returns c = ap (told 7) (sym (c.loop-k.invariant.1 ∙ bytes_end _ _ _ _ c.loop-k-test.false))
+returns c = ap (told 7) (sym (c.loop-rule.invariant.1 ∙ bytes_end _ _ _ _ c.loop-rule-test.false))

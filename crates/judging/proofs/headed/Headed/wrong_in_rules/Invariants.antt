@@ -4,6 +4,6 @@ use Rattle.std.proofs.Math.Option.{none}
 use Rattle.reading.specs.Verdict.{wrong_rule, wrong_in_rules}
 use Rattle.judging.proofs.headed.Headed.wrong_in_rules.Given as goal
 
-abbrev pub invariant-loop-k : goal.invariant-loop-k
-invariant-loop-k l = (wrong_rule l.self.book.now l.end l.s (l.n - l.k) ≡ none)
-    × (wrong_in_rules l.self.book.now l.start l.n ≡ wrong_in_rules l.self.book.now l.s (l.n - l.k))
+abbrev pub invariant-loop-rule : goal.invariant-loop-rule
+invariant-loop-rule l = (wrong_rule l.self.book.now l.end l.s (l.n - l._rule) ≡ none)
+    × (wrong_in_rules l.self.book.now l.start l.n ≡ wrong_in_rules l.self.book.now l.s (l.n - l._rule))
