@@ -33,6 +33,7 @@ pub fn explore(
     let mut from = 0;
     let mut room = [255u8; RECORD];
     let mut patience = Patience::fresh(0);
+    // The next rewriting is taken from a place that moves by more than one: no range goes over them.
     loop {
         let found = next_rewriting(rules, member, rule, from, &mut room);
         let Some(taken) = found else {

@@ -54,6 +54,7 @@ fn explore_all(book: &[u8], members: &mut Members) -> Result<usize, Refused>
     let allowed = book::read(book).allowed;
     let rules = Rules::read(book);
     let mut taken = 0;
+    // The members grow and shrink in each turn: no iterator goes over them.
     while members.explored() < members.count() {
         if taken == allowed {
             return Err(Refused {

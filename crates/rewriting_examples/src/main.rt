@@ -129,6 +129,7 @@ fn list<W: Write>(out: &mut W, question: &[u8; RECORD], rule: &Rule<'_>) -> io::
     let unknowns = lister::has_unknowns(rule);
     let mut from: usize = 0;
     let mut rewriting = [255u8; RECORD];
+    // What is asked next follows from what was found: no range goes over it, and the bound ends it.
     while from < MOST {
         let found = lister::next(question, rule, unknowns, from, &mut rewriting);
         let Some(choice) = found else {

@@ -1,5 +1,6 @@
 // Looking ahead: whether an atom that has no digit yet can get none, so that no choice that goes on from these classes is
-// valid. A yes is right. A no says nothing: it costs time alone.
+// valid. A yes is right. A no says nothing: it costs time alone. So the loops are no `any`, whose laws want every answer
+// of the closure determined.
 ghost use Rattle.std.specs.Prelude.{◌≡◌, true, map, ◌+◌, ◌*◌, ◌≤◌, T, length};
 ghost use Rattle.covering.specs.Lists.{◌∈◌};
 ghost use Rattle.covering.specs.Term.{Term, Atom, on_term, on_atom};

@@ -1,5 +1,6 @@
 // Whether a choice is valid, by its classes: each existential variable of the rule's head is alone in its class, but
-// for question variables that occur in no left atom.
+// for question variables that occur in no left atom. Used places are gone over by a `for`: of a closure's turn the check
+// does not know that the byte there is a sound term (tried with `all`).
 ghost use Rattle.std.specs.Prelude.{◌≡◌, not, ◌||◌, map, ◌+◌, ◌*◌, ◌≤◌, T, length, get_or};
 ghost use Rattle.covering.specs.Lists.{all};
 ghost use Rattle.covering.specs.Term.{on_term, on_question, terms, eq_term};
