@@ -1,5 +1,8 @@
 -- The laws that the functions of covering cite.
 
+-- parts of the bytes: an atom's places, an atom, the atoms still to place
+pub mod Parts
+pub mod Rest
 -- the map as the code holds it; the search, a candidate and an atom at a time
 pub mod Maps
 pub mod Sent

@@ -17,7 +17,8 @@ use Rattle.cover.specs.HeldMap.{part_of, said, Searched}
 use Rattle.covering.specs.FirstMap.{goes_byte, map_bytes, map_or}
 use Rattle.covering.specs.Desk.{map_size}
 use Rattle.covering.proofs.Tests.{either, le_or_lt}
-use Rattle.covering.proofs.Bytes.{term_same, term_var, term_con, args_more, args_end}
+use Rattle.covering.proofs.Bytes.{term_same, term_var, term_con}
+use Rattle.cover.proofs.Parts.{args_on, args_off}
 
 -- a byte of the map, whatever stands past its end
 get_d_default : (m : List ℕ) (n d e : ℕ) → n < length m → get_or m n d ≡ get_or m n e
@@ -71,33 +72,33 @@ unfolding args_at
 places_done F S i k w p e = rw (e, args_at)
 
 -- the ways of the places, of which j of w are passed
-module _ (F S : List ℕ) (i k j w : ℕ) (lt : j < w) where
+module _ (F S : List ℕ) (j w : ℕ) (lt : j < w) where
   abbrev here : Part → Option Part
-  here p = place_terms p (args_at F (i + j) (w - j)) (args_at S (k + j) (w - j))
+  here p = place_terms p (args_at F j (w - j)) (args_at S j (w - j))
 
   -- the first's places end: so must the second's
-  pub places_end : (p : Part) → get_or F (i + j) 0 ≡ 255 → here p ≡ cond (eqb (get_or S (k + j) 0) 255) (some p) none
-  places_end p e = go (either (eqb (get_or S (k + j) 0) 255))
+  pub places_end : (p : Part) → get_or F j 0 ≡ 255 → here p ≡ cond (eqb (get_or S j 0) 255) (some p) none
+  places_end p e = go (either (eqb (get_or S j 0) 255))
     where
-      go : (eqb (get_or S (k + j) 0) 255 ≡ true) ⊎ (eqb (get_or S (k + j) 0) 255 ≡ false)
-          → here p ≡ cond (eqb (get_or S (k + j) 0) 255) (some p) none
-      go (inl f) = rw (args_end F i j w lt e, args_end S k j w lt (eqb-true _ _ f), f)
-      go (inr f) = rw (args_end F i j w lt e, args_more S k j w lt (eqb-false _ _ f), f)
+      go : (eqb (get_or S j 0) 255 ≡ true) ⊎ (eqb (get_or S j 0) 255 ≡ false)
+          → here p ≡ cond (eqb (get_or S j 0) 255) (some p) none
+      go (inl f) = rw (args_off F j w lt e, args_off S j w lt (eqb-true _ _ f), f)
+      go (inr f) = rw (args_off F j w lt e, args_on S j w lt (eqb-false _ _ f), f)
 
   -- the second's places end first
-  pub places_short : (p : Part) → (get_or F (i + j) 0 ≡ 255 → ⊥) → get_or S (k + j) 0 ≡ 255 → here p ≡ none
-  places_short p used free = rw (args_more F i j w lt used, args_end S k j w lt free)
+  pub places_short : (p : Part) → (get_or F j 0 ≡ 255 → ⊥) → get_or S j 0 ≡ 255 → here p ≡ none
+  places_short p used free = rw (args_on F j w lt used, args_off S j w lt free)
 
-  module _ (p : Part) (used : get_or F (i + j) 0 ≡ 255 → ⊥) (used' : get_or S (k + j) 0 ≡ 255 → ⊥) where
+  module _ (p : Part) (used : get_or F j 0 ≡ 255 → ⊥) (used' : get_or S j 0 ≡ 255 → ⊥) where
     abbrev step : Option Part
-    step = place_term p (term_of (get_or F (i + j) 0)) (term_of (get_or S (k + j) 0))
+    step = place_term p (term_of (get_or F j 0)) (term_of (get_or S j 0))
 
     pub places_clash : step ≡ none → here p ≡ none
-    places_clash e = rw (args_more F i j w lt used, args_more S k j w lt used', e)
+    places_clash e = rw (args_on F j w lt used, args_on S j w lt used', e)
 
     pub places_next : {q : Part} → step ≡ some q
-        → here p ≡ place_terms q (args_at F (i + (j + 1)) (w - (j + 1))) (args_at S (k + (j + 1)) (w - (j + 1)))
-    places_next e = rw (args_more F i j w lt used, args_more S k j w lt used', e)
+        → here p ≡ place_terms q (args_at F (j + 1) (w - (j + 1))) (args_at S (j + 1) (w - (j + 1)))
+    places_next e = rw (args_on F j w lt used, args_on S j w lt used', e)
 
 -- the ways of an atom
 module _ (L : Layout) (F S : List ℕ) (i k : ℕ) (p : Part) where

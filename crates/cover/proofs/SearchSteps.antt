@@ -2,7 +2,7 @@
 -- Assumes nothing.
 use mathlib.Core.Path.{◌≡◌, refl, sym, ◌∙◌, ap, ap₂}
 use mathlib.Core.Bool.{Bool, true, false, true≢false}
-use mathlib.Core.List.{List}
+use mathlib.Core.List.{List, [], ◌∷◌}
 use mathlib.Core.Option.{Option, none, some}
 use Prim.Native.Nat.{ℕ, ◌+◌, ◌*◌, ◌-◌, ◌<◌}
 use native.Mathlib.Omega.{arith}
@@ -11,7 +11,7 @@ use Rattle.covering.specs.Lists.{is_some}
 use Rattle.covering.specs.Term.{Atom, Question}
 use Rattle.covering.specs.Search.{Part, place_atom, find_map}
 use Rattle.cover.specs.Candidates.{placed_on, found_on, tried, has_candidate}
-use Rattle.covering.specs.Record.{Layout, stored, size, atom_at, atoms_at, are_atoms, question_of}
+use Rattle.covering.specs.Record.{Layout, stored, size, atom_at, atoms_at, question_of}
 use Rattle.cover.specs.HeldMap.{part_of, said, Searched}
 use Rattle.covering.proofs.Places.{atoms_none, atoms_more, question_at_lem}
 
@@ -20,22 +20,18 @@ module _ (B : List ℕ) where
   pub none_passed : question_of stored B ≡ atoms_at stored B (1 + 0 * 7) (get_or B 0 0 - 0)
   none_passed = question_at_lem stored B refl ∙ ap₂ (atoms_at stored B) (omega arith) (omega arith)
 
-  pub one_passed : (i n left : ℕ) → atoms_at stored B (i + n * 7 + 7) (left - n - 1) ≡ atoms_at stored B (i + (n + 1) * 7) (left - (n + 1))
+  pub one_passed : (i n left : ℕ)
+      → atoms_at stored B (i + n * 7 + 7) (left - n - 1) ≡ atoms_at stored B (i + (n + 1) * 7) (left - (n + 1))
   one_passed i n left = ap₂ (atoms_at stored B) (omega arith) (omega arith)
 
-  pub sound_passed : (i n left : ℕ) → are_atoms stored B (i + n * 7 + 7) (left - n - 1) ≡ are_atoms stored B (i + (n + 1) * 7) (left - (n + 1))
-  sound_passed i n left = ap₂ (are_atoms stored B) (omega arith) (omega arith)
-
 -- the next atom is tried on all candidates
-module _ (L : Layout) (F : List ℕ) (i left : ℕ) (B : Question) (p : Part) where
-  pub search_done : left ≡ 0 → find_map (atoms_at L F i left) B p ≡ some p
-  unfolding find_map
-  search_done e = rw (atoms_none L F i left e)
+pub search_next : (a : Atom) (A B : Question) (p : Part) → find_map (a ∷ A) B p ≡ tried a A B B p
+unfolding find_map tried placed_on
+search_next a A B p = refl
 
-  pub search_next : 0 < left
-      → find_map (atoms_at L F i left) B p ≡ tried (atom_at L F i) (atoms_at L F (i + size L) (left - 1)) B B p
-  unfolding find_map tried placed_on
-  search_next h = rw (atoms_more L F i left h)
+pub search_done : (B : Question) (p : Part) → find_map [] B p ≡ some p
+unfolding find_map
+search_done B p = refl
 
 -- the next candidate serves, or is passed over
 module _ (L : Layout) (a : Atom) (A B : Question) (S : List ℕ) (k more : ℕ) (p : Part) where
@@ -79,11 +75,9 @@ module _ (L : Layout) (S : List ℕ) (k more : ℕ) (p : Part) (a : Atom) where
   candidate_miss h e = rw (atoms_more L S k more h, e)
 
 -- the first atom on one candidate
-pub on_candidate : (L : Layout) (F S : List ℕ) (k : ℕ) (p : Part) → 0 < get_or F 0 0
-    → placed_on (atom_at L F 1) (atoms_at L F (1 + size L) (get_or F 0 0 - 1)) (question_of L S) p (atom_at L S k)
-    ≡ found_on (question_of L F) (question_of L S) p (atom_at L S k)
-unfolding found_on question_of
-on_candidate L F S k p h = rw (atoms_more L F 1 (get_or F 0 0) h)
+pub on_candidate : (a : Atom) (A B : Question) (p : Part) (b : Atom) → placed_on a A B p b ≡ found_on (a ∷ A) B p b
+unfolding found_on
+on_candidate a A B p b = refl
 
 -- a search's answer: a yes, a no
 module _ (o : Option Part) (came : List ℕ) where

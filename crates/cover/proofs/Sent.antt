@@ -107,22 +107,22 @@ module _ (m : List ℕ) (t u : ℕ) where
           ∙ ap (λ n. some (part_of n)) (sym (put_old (eqb-false _ _ b)))
 
 -- the places one after the other
-module _ (m F S : List ℕ) (i k : ℕ) where
+module _ (m F S : List ℕ) where
   abbrev W : ℕ → List ℕ
-  W j = sent_to m F S i k j
+  W j = sent_to m F S j
 
   pub sent_none : W 0 ≡ m
   unfolding sent_to
   sent_none = refl
 
-  pub sent_more : (j : ℕ) → W (j + 1) ≡ put (W j) (get_or F (i + j) 0) (get_or S (k + j) 0)
+  pub sent_more : (j : ℕ) → W (j + 1) ≡ put (W j) (get_or F j 0) (get_or S j 0)
   unfolding sent_to
   sent_more j = rw (add-one, sent_to) refl
 
   pub length_sent : (j : ℕ) → length (W j) ≡ length m
   unfolding sent_to
   length_sent zero = refl
-  length_sent (suc j) = length_put (W j) (get_or F (i + j) 0) (get_or S (k + j) 0) ∙ length_sent j
+  length_sent (suc j) = length_put (W j) (get_or F j 0) (get_or S j 0) ∙ length_sent j
 
   -- a variable that goes somewhere goes there still
   pub sent_keeps : (t n d : ℕ) → (get_or (W n) t 0 ≡ 255 → ⊥) → get_or (W (n + d)) t 0 ≡ get_or (W n) t 0
@@ -131,7 +131,7 @@ module _ (m F S : List ℕ) (i k : ℕ) where
       let before = sent_keeps t n d f in
       ap (λ j. get_or (W j) t 0) (omega arith)
       ∙ ap (λ l. get_or l t 0) (sent_more (n + d))
-      ∙ put_keeps (W (n + d)) (get_or F (i + (n + d)) 0) (get_or S (k + (n + d)) 0) t (λ e. f (sym before ∙ e))
+      ∙ put_keeps (W (n + d)) (get_or F (n + d) 0) (get_or S (n + d) 0) t (λ e. f (sym before ∙ e))
       ∙ before
 
   pub sent_kept : (t j : ℕ) → (get_or m t 0 ≡ 255 → ⊥) → get_or (W j) t 0 ≡ get_or m t 0
@@ -141,81 +141,81 @@ module _ (m F S : List ℕ) (i k : ℕ) where
       ap (λ n. get_or (W n) t 0) e ∙ sent_keeps t 0 j f
 
   -- one that goes nowhere yet goes where its first place is sent
-  pub sent_first : (t n j : ℕ) → n < j → t < 96 → length m ≡ 96 → get_or F (i + n) 0 ≡ t → get_or (W n) t 0 ≡ 255
-      → (get_or S (k + n) 0 ≡ 255 → ⊥) → get_or (W j) t 0 ≡ get_or S (k + n) 0
+  pub sent_first : (t n j : ℕ) → n < j → t < 96 → length m ≡ 96 → get_or F n 0 ≡ t → get_or (W n) t 0 ≡ 255
+      → (get_or S n 0 ≡ 255 → ⊥) → get_or (W j) t 0 ≡ get_or S n 0
   sent_first t n j lt v l e free used =
-      let there : get_or (W (n + 1)) t 0 ≡ get_or S (k + n) 0 = at_once in
+      let there : get_or (W (n + 1)) t 0 ≡ get_or S n 0 = at_once in
       ap (λ x. get_or (W x) t 0) (omega arith)
       ∙ sent_keeps t (n + 1) (j - (n + 1)) (λ q. used (sym there ∙ q))
       ∙ there
     where
-      at_once : get_or (W (n + 1)) t 0 ≡ get_or S (k + n) 0
+      at_once : get_or (W (n + 1)) t 0 ≡ get_or S n 0
       at_once =
           ap (λ x. get_or x t 0)
           (sent_more n
-          ∙ ap (λ x. put (W n) x (get_or S (k + n) 0)) e
-          ∙ put_new (W n) t (get_or S (k + n) 0) v free)
-          ∙ get_or-set_same (W n) t (get_or S (k + n) 0) 0 (let q = length_sent n in omega arith)
+          ∙ ap (λ x. put (W n) x (get_or S n 0)) e
+          ∙ put_new (W n) t (get_or S n 0) v free)
+          ∙ get_or-set_same (W n) t (get_or S n 0) 0 (let q = length_sent n in omega arith)
 
-  pub sent_passes : (t n : ℕ) → (get_or F (i + n) 0 ≡ t → ⊥) → get_or (W n) t 0 ≡ 255 → get_or (W (n + 1)) t 0 ≡ 255
+  pub sent_passes : (t n : ℕ) → (get_or F n 0 ≡ t → ⊥) → get_or (W n) t 0 ≡ 255 → get_or (W (n + 1)) t 0 ≡ 255
   sent_passes t n f free =
-      ap (λ x. get_or x t 0) (sent_more n) ∙ put_other (W n) (get_or F (i + n) 0) (get_or S (k + n) 0) t f ∙ free
+      ap (λ x. get_or x t 0) (sent_more n) ∙ put_other (W n) (get_or F n 0) (get_or S n 0) t f ∙ free
 
   -- what was sent is taken back, the last place first
-  pub back_whole : (j : ℕ) (h : List ℕ) → HadBefore m F S i k j h → taken_back (W j) F i h j ≡ m
+  pub back_whole : (j : ℕ) (h : List ℕ) → HadBefore m F S j h → taken_back (W j) F h j ≡ m
   unfolding sent_to taken_back
   back_whole zero h b = refl
-  back_whole (suc j) h b = ap (λ l. taken_back l F i h j) (go (either (ltb t 96))) ∙ back_whole j h less
+  back_whole (suc j) h b = ap (λ l. taken_back l F h j) (go (either (ltb t 96))) ∙ back_whole j h less
     where
       t : ℕ
-      t = get_or F (i + j) 0
+      t = get_or F j 0
 
-      less : HadBefore m F S i k j h
+      less : HadBefore m F S j h
       less = record { room = b.room; had = λ n lt v. b.had n (omega arith) v }
 
       go : (ltb t 96 ≡ true) ⊎ (ltb t 96 ≡ false)
           → cond (ltb t 96) (set (W (suc j)) t (get_or h j 0)) (W (suc j)) ≡ W j
       go (inl e) =
-          rw (e, b.had j (omega arith) (ltb-true t 96 e)) (put_back (W j) t (get_or S (k + j) 0) (ltb-true t 96 e))
-      go (inr e) = rw e (put_constant (W j) t (get_or S (k + j) 0) (ltb-false t 96 e))
+          rw (e, b.had j (omega arith) (ltb-true t 96 e)) (put_back (W j) t (get_or S j 0) (ltb-true t 96 e))
+      go (inr e) = rw e (put_constant (W j) t (get_or S j 0) (ltb-false t 96 e))
 
-  pub had_none : (h : List ℕ) → length h ≡ 6 → HadBefore m F S i k 0 h
+  pub had_none : (h : List ℕ) → length h ≡ 6 → HadBefore m F S 0 h
   had_none h e = record { room = e; had = λ n lt v. absurd (omega arith) }
 
   -- one more place, and what the map had for it
-  pub had_more : (j : ℕ) (h : List ℕ) (x : ℕ) → j < 6 → HadBefore m F S i k j h
-      → x ≡ cond (ltb (get_or F (i + j) 0) 96) (get_or (W j) (get_or F (i + j) 0) 0) 255
-      → HadBefore m F S i k (j + 1) (set h j x)
+  pub had_more : (j : ℕ) (h : List ℕ) (x : ℕ) → j < 6 → HadBefore m F S j h
+      → x ≡ cond (ltb (get_or F j 0) 96) (get_or (W j) (get_or F j 0) 0) 255
+      → HadBefore m F S (j + 1) (set h j x)
   had_more j h x lt b e = record { room = length-set h j x ∙ b.room; had = λ n l v. go n l v (either (eqb n j)) }
     where
-      go : (n : ℕ) → n < j + 1 → get_or F (i + n) 0 < 96 → (eqb n j ≡ true) ⊎ (eqb n j ≡ false)
-          → get_or (set h j x) n 0 ≡ get_or (W n) (get_or F (i + n) 0) 0
+      go : (n : ℕ) → n < j + 1 → get_or F n 0 < 96 → (eqb n j ≡ true) ⊎ (eqb n j ≡ false)
+          → get_or (set h j x) n 0 ≡ get_or (W n) (get_or F n 0) 0
       go n l v (inl q) =
           let same = eqb-true n j q in
           rw same
           (get_or-set_same h j x 0 (let r = b.room in omega arith)
           ∙ e
-          ∙ rw (lt-ltb (get_or F (i + j) 0) 96 (subst (λ y. get_or F (i + y) 0 < 96) same v)) refl)
+          ∙ rw (lt-ltb (get_or F j 0) 96 (subst (λ y. get_or F y 0 < 96) same v)) refl)
       go n l v (inr q) =
           let other = eqb-false n j q in
           get_or-set_other h j n x 0 other ∙ b.had n (omega arith) v
 
 -- the places taken back one at a time
-module _ (m F : List ℕ) (i : ℕ) (h : List ℕ) (left : ℕ) where
-  pub back_none : left ≡ 0 → taken_back m F i h left ≡ m
+module _ (m F h : List ℕ) (left : ℕ) where
+  pub back_none : left ≡ 0 → taken_back m F h left ≡ m
   unfolding taken_back
   back_none e = rw (e, taken_back) refl
 
-  pub back_writes : 0 < left → get_or F (i + (left - 1)) 0 < 96
-      → taken_back m F i h left
-      ≡ taken_back (set m (get_or F (i + (left - 1)) 0) (get_or h (left - 1) 0)) F i h (left - 1)
+  pub back_writes : 0 < left → get_or F (left - 1) 0 < 96
+      → taken_back m F h left
+      ≡ taken_back (set m (get_or F (left - 1) 0) (get_or h (left - 1) 0)) F h (left - 1)
   unfolding taken_back
   back_writes lt v =
       let e : left ≡ suc (left - 1) = omega arith in
-      ap (taken_back m F i h) e ∙ rw (taken_back, lt-ltb (get_or F (i + (left - 1)) 0) 96 v) refl
+      ap (taken_back m F h) e ∙ rw (taken_back, lt-ltb (get_or F (left - 1) 0) 96 v) refl
 
-  pub back_passes : 0 < left → 96 ≤ get_or F (i + (left - 1)) 0 → taken_back m F i h left ≡ taken_back m F i h (left - 1)
+  pub back_passes : 0 < left → 96 ≤ get_or F (left - 1) 0 → taken_back m F h left ≡ taken_back m F h (left - 1)
   unfolding taken_back
   back_passes lt v =
       let e : left ≡ suc (left - 1) = omega arith in
-      ap (taken_back m F i h) e ∙ rw (taken_back, le-ltb (get_or F (i + (left - 1)) 0) 96 v) refl
+      ap (taken_back m F h) e ∙ rw (taken_back, le-ltb (get_or F (left - 1) 0) 96 v) refl

@@ -2,5 +2,6 @@
 -- candidate to candidate, and how it holds the map so far. The search desk's contracts cite `covering` alone.
 pub mod Candidates
 pub mod HeldMap
+pub mod Rest
 -- The desk's answers as 01 and 02 number them.
 pub mod Told

@@ -6,7 +6,7 @@ ghost use Rattle.covering.specs.Desk.{covering_map, covers_answer, covers_map, k
 ghost use Rattle.cover.specs.HeldMap.{Searched};
 ghost use Rattle.cover.specs.Told.{number_told, map_told, which_told, kept_map_told};
 
-use crate::search::place_next;
+use crate::search::{atoms, place_next};
 use crate::{Keeping, MAP, Malformed, VARIABLES, Which};
 use records::{answers, is_record, widened};
 
@@ -27,8 +27,7 @@ fn covers_record(first: &[u8], second: &[u8], w: usize, map: &mut [u8; VARIABLES
     }
     let one = widened(first, w);
     let two = widened(second, w);
-    let n = one[0] as usize;
-    place_next(&one, &two, map, 1, n, true)
+    place_next(atoms(&one), &two, map, true)
 }
 
 // The first bytes of a map, those of the variables that a record may have at the desk.

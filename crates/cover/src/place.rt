@@ -1,104 +1,75 @@
 // Placing one atom of the first question on one atom of the second, under the map so far, and taking it back. The map
-// has a byte for each variable, 255 where it goes nowhere yet. A candidate is tested before a byte is written.
-ghost use Rattle.std.specs.Prelude.{◌≡◌, cond, ℕ, ◌+◌, ◌≤◌, ◌<◌, T, ltb, get_or};
+// has a byte for each variable, 255 where it goes nowhere yet. A candidate is tested before a byte is written. The
+// places of an atom are lent where they stand: those of the first question are the terms, those of the second the others.
+ghost use Rattle.std.specs.Prelude.{◌≡◌, cond, ℕ, ◌≤◌, ◌<◌, T, ltb, length, get_or};
 ghost use Rattle.covering.specs.Lists.{is_some};
 ghost use Rattle.covering.specs.Search.{place_term, place_terms};
 ghost use Rattle.covering.specs.Record.{stored, term_of, args_at, used_first};
-ghost use Rattle.covering.specs.Buffer.{record_room};
 ghost use Rattle.cover.specs.HeldMap.{part_of, put, sent_to, HadBefore, taken_back};
 
 use crate::VARIABLES;
-use covering::RECORD;
 
-// Where the variable t goes once j places of first from i on are sent to those of second from k on: 255 for nowhere.
+// Where the variable t goes once the first j terms are sent to the first j others: 255 for nowhere.
 // A byte and no Option, since the map has 255 for nowhere too and the clause speaks of its bytes.
-fn goes_to(
-    first: &[u8; RECORD],
-    second: &[u8; RECORD],
-    map: &[u8; VARIABLES],
-    i: usize,
-    k: usize,
-    j: usize,
-    t: u8,
-) -> u8
+fn goes_to(terms: &[u8], others: &[u8], map: &[u8; VARIABLES], j: usize, t: u8) -> u8
     requires { (t < 96)
-        × (i + j ≤ record_room)
-        × (k + j ≤ record_room)
-        × ((n : ℕ) → n < j → get_or second.now (k + n) 0 ≡ 255 → ⊥) }
-    ensures { result
-        ≡ get_or (sent_to map.now first.now second.now i k j) t 0 }
+        × (j ≤ length terms.now)
+        × (j ≤ length others.now)
+        × ((n : ℕ) → n < j → get_or others.now n 0 ≡ 255 → ⊥) }
+    ensures { result ≡ get_or (sent_to map.now terms.now others.now j) t 0 }
 {
     let had = map[t as usize];
     if had != 255 {
         return had;
     }
     for n in 0..j {
-        if first[i + n] == t {
-            return second[k + n];
+        if terms[n] == t {
+            return others[n];
         }
     }
     255
 }
 
-// Whether the j-th place of first from i on, a term, can be sent to that of second from k on, after those before it.
-fn term_meets(
-    first: &[u8; RECORD],
-    second: &[u8; RECORD],
-    map: &[u8; VARIABLES],
-    i: usize,
-    k: usize,
-    j: usize,
-) -> bool
-    requires { (i + j < record_room)
-        × (k + j < record_room)
-        × ((n : ℕ) → n < j → get_or second.now (k + n) 0 ≡ 255 → ⊥)
-        × (get_or second.now (k + j) 0 ≡ 255 → ⊥)
-        × (96 ≤ get_or first.now (i + j) 0 → 128 ≤ get_or first.now (i + j) 0) }
+// Whether the j-th of the terms can be sent to that of the others, after those before it.
+fn term_meets(terms: &[u8], others: &[u8], map: &[u8; VARIABLES], j: usize) -> bool
+    requires { (j < length terms.now)
+        × (j < length others.now)
+        × ((n : ℕ) → n < j → get_or others.now n 0 ≡ 255 → ⊥)
+        × (get_or others.now j 0 ≡ 255 → ⊥)
+        × (96 ≤ get_or terms.now j 0 → 128 ≤ get_or terms.now j 0) }
     ensures { result
         ≡ is_some
         (place_term
-        (part_of (sent_to map.now first.now second.now i k j))
-        (term_of (get_or first.now (i + j) 0))
-        (term_of (get_or second.now (k + j) 0))) }
+        (part_of (sent_to map.now terms.now others.now j))
+        (term_of (get_or terms.now j 0))
+        (term_of (get_or others.now j 0))) }
 {
-    let t = first[i + j];
-    let u = second[k + j];
+    let t = terms[j];
+    let u = others[j];
     if 96 <= t {
         return t == u;
     }
-    let goes = goes_to(first, second, map, i, k, j, t);
+    let goes = goes_to(terms, others, map, j, t);
     if goes == 255 {
         return true;
     }
     goes == u
 }
 
-// Whether the used places of first from i on can be sent to those of second from k on: as many, each to its own.
-pub fn terms_meet(
-    first: &[u8; RECORD],
-    second: &[u8; RECORD],
-    map: &[u8; VARIABLES],
-    i: usize,
-    k: usize,
-) -> bool
-    requires { (i + 6 ≤ record_room)
-        × (k + 6 ≤ record_room)
-        × T (used_first stored first.now i 6) }
+// Whether the terms that are used can be sent to the others: as many, each to its own.
+pub fn terms_meet(terms: &[u8], others: &[u8], map: &[u8; VARIABLES]) -> bool
+    requires { (6 ≤ length terms.now) × (6 ≤ length others.now) × T (used_first stored terms.now 0 6) }
     ensures { result
-        ≡ is_some
-        (place_terms
-        (part_of map.now)
-        (args_at first.now i 6)
-        (args_at second.now k 6)) }
+        ≡ is_some (place_terms (part_of map.now) (args_at terms.now 0 6) (args_at others.now 0 6)) }
 {
     for j in 0..6 {
-        if first[i + j] == 255 {
-            return second[k + j] == 255;
+        if terms[j] == 255 {
+            return others[j] == 255;
         }
-        if second[k + j] == 255 {
+        if others[j] == 255 {
             return false;
         }
-        if !term_meets(first, second, map, i, k, j) {
+        if !term_meets(terms, others, map, j) {
             return false;
         }
     }
@@ -121,38 +92,30 @@ fn send_term(map: &mut [u8; VARIABLES], t: u8, u: u8) -> u8
     had
 }
 
-// Sends the used places of first from i on to those of second from k on, where they meet. Gives what the map had for each,
-// to take back to.
-pub fn send(
-    first: &[u8; RECORD],
-    second: &[u8; RECORD],
-    map: &mut [u8; VARIABLES],
-    i: usize,
-    k: usize,
-) -> [u8; 6]
-    requires { (i + 6 ≤ record_room) × (k + 6 ≤ record_room) × T (used_first stored first.now i 6) }
-    ensures { (map.new
-        ≡ sent_to map.old first.now second.now i k 6)
-        × HadBefore map.old first.now second.now i k 6 result }
+// Sends the terms that are used to the others, where they meet. Gives what the map had for each, to take back to.
+pub fn send(terms: &[u8], others: &[u8], map: &mut [u8; VARIABLES]) -> [u8; 6]
+    requires { (6 ≤ length terms.now) × (6 ≤ length others.now) × T (used_first stored terms.now 0 6) }
+    ensures { (map.new ≡ sent_to map.old terms.now others.now 6)
+        × HadBefore map.old terms.now others.now 6 result }
 {
     let mut before = [255u8; 6];
     for j in 0..6 {
-        let t = first[i + j];
+        let t = terms[j];
         if t == 255 {
             return before;
         }
-        before[j] = send_term(map, t, second[k + j]);
+        before[j] = send_term(map, t, others[j]);
     }
     before
 }
 
-// Takes the places of first from i on back to what the map had before they were sent, the last first.
-pub fn take_back(first: &[u8; RECORD], map: &mut [u8; VARIABLES], i: usize, before: [u8; 6])
-    requires { i + 6 ≤ record_room }
-    ensures { map.new ≡ taken_back map.old first.now i before 6 }
+// Takes the terms back to what the map had before they were sent, the last first.
+pub fn take_back(terms: &[u8], map: &mut [u8; VARIABLES], before: [u8; 6])
+    requires { 6 ≤ length terms.now }
+    ensures { map.new ≡ taken_back map.old terms.now before 6 }
 {
     for j in (0..6).rev() {
-        let t = first[i + j];
+        let t = terms[j];
         if t < 96 {
             map[t as usize] = before[j];
         }

@@ -1,13 +1,14 @@
 // The search for a covering map: one function takes the next atom, one tries its next candidate, and they call each
 // other. One map is lent through it. What an atom placed is taken back before its next candidate is tried, so a no
-// leaves the map as it came.
-ghost use Rattle.std.specs.Prelude.{◌≡◌, ◌+◌, ◌*◌, ◌≤◌, ◌<◌, T, length, get_or, true, false, not, ◌&&◌};
+// leaves the map as it came. The atoms still to place are lent where they stand, seven bytes each: `rest`.
+ghost use Rattle.std.specs.Prelude.{◌≡◌, ◌+◌, ◌*◌, ◌≤◌, ◌<◌, T, length, get_or, drop, true, false, not, ◌&&◌};
 ghost use Rattle.covering.specs.Lists.{is_some, any, all};
 ghost use Rattle.covering.specs.Term.{terms, eq_term};
 ghost use Rattle.covering.specs.Search.{place_atom, find_map, covers};
 ghost use Rattle.cover.specs.Candidates.{placed_on, found_on, has_candidate, new_to, leads_on, is_placed, is_met};
-ghost use Rattle.covering.specs.Record.{stored, width, term_of, is_atom, atom_at, atoms_at, question_of, SoundRecord};
+ghost use Rattle.covering.specs.Record.{stored, width, term_of, is_atom, atom_at, question_of, SoundRecord};
 ghost use Rattle.cover.specs.HeldMap.{part_of, Searched};
+ghost use Rattle.cover.specs.Rest.{atoms_of, SoundAtoms};
 ghost use Rattle.covering.specs.Buffer.{AtomsIn, record_room};
 
 use crate::VARIABLES;
@@ -15,81 +16,65 @@ use crate::place::{send, take_back, terms_meet};
 use covering::RECORD;
 use records::{copy_record, stands_in};
 
-// Whether the atom of first at i can be placed on one of the atoms of second, as the map is now.
-fn has_candidate(
-    first: &[u8; RECORD],
-    second: &[u8; RECORD],
-    map: &[u8; VARIABLES],
-    i: usize,
-) -> bool
-    requires { (i + 7 ≤ record_room)
-        × T (is_atom stored first.now i)
+// The atoms that a record counts, seven bytes each.
+pub fn atoms(held: &[u8; RECORD]) -> &[u8]
+    requires { AtomsIn stored held.now 1 (get_or held.now 0 0) }
+    ensures sound { SoundAtoms result.now }
+    ensures atoms { atoms_of result.now ≡ question_of stored held.now }
+    ensures long { length result.now ≡ get_or held.now 0 0 * 7 }
+{
+    &held[1..1 + usize::from(held[0]) * 7]
+}
+
+// Whether the atom can be placed on one of the atoms of second, as the map is now.
+fn has_candidate(atom: &[u8], second: &[u8; RECORD], map: &[u8; VARIABLES]) -> bool
+    requires { (7 ≤ length atom.now)
+        × T (is_atom stored atom.now 0)
         × (width stored (get_or second.now 0 0) ≤ record_room) }
     ensures { result
-        ≡ has_candidate
-        (part_of map.now)
-        (question_of stored second.now)
-        (atom_at stored first.now i) }
+        ≡ has_candidate (part_of map.now) (question_of stored second.now) (atom_at stored atom.now 0) }
 {
     for n in 0..usize::from(second[0]) {
         let k = 1 + n * 7;
-        if first[i] == second[k] && terms_meet(first, second, map, i + 1, k + 1) {
+        if atom[0] == second[k] && terms_meet(&atom[1..7], &second[k + 1..k + 7], map) {
             return true;
         }
     }
     false
 }
 
-// The look-ahead: whether each of the `left` atoms of first from i on has a candidate.
-fn all_have(
-    first: &[u8; RECORD],
-    second: &[u8; RECORD],
-    map: &[u8; VARIABLES],
-    i: usize,
-    left: usize,
-) -> bool
-    requires { AtomsIn stored first.now i left × (width stored (get_or second.now 0 0) ≤ record_room) }
+// The look-ahead: whether each of the atoms still to place has a candidate.
+fn all_have(rest: &[u8], second: &[u8; RECORD], map: &[u8; VARIABLES]) -> bool
+    requires { SoundAtoms rest.now × (width stored (get_or second.now 0 0) ≤ record_room) }
     ensures { result
-        ≡ all
-        (has_candidate (part_of map.now) (question_of stored second.now))
-        (atoms_at stored first.now i left) }
+        ≡ all (has_candidate (part_of map.now) (question_of stored second.now)) (atoms_of rest.now) }
 {
-    for n in 0..left {
-        if !has_candidate(first, second, map, i + n * 7) {
+    for n in 0..rest.len() / 7 {
+        if !has_candidate(&rest[n * 7..n * 7 + 7], second, map) {
             return false;
         }
     }
     true
 }
 
-// Whether it is seen, if one looks, that the `left` atoms of first from i on cannot be placed: one has no candidate.
-fn seen_dead(
-    first: &[u8; RECORD],
-    second: &[u8; RECORD],
-    map: &[u8; VARIABLES],
-    i: usize,
-    left: usize,
-    look: bool,
-) -> bool
-    requires { AtomsIn stored first.now i left × (width stored (get_or second.now 0 0) ≤ record_room) }
+// Whether it is seen, if one looks, that the atoms still to place cannot be placed: one has no candidate.
+fn seen_dead(rest: &[u8], second: &[u8; RECORD], map: &[u8; VARIABLES], look: bool) -> bool
+    requires { SoundAtoms rest.now × (width stored (get_or second.now 0 0) ≤ record_room) }
     ensures { result ≡ true
-        → all
-        (has_candidate (part_of map.now) (question_of stored second.now))
-        (atoms_at stored first.now i left)
+        → all (has_candidate (part_of map.now) (question_of stored second.now)) (atoms_of rest.now)
         ≡ false }
 {
     if !look {
         return false;
     }
-    !all_have(first, second, map, i, left)
+    !all_have(rest, second, map)
 }
 
-// Whether the place u of an atom is a variable that goes nowhere yet and stands in the `left` atoms of first from i on.
-fn place_leads(first: &[u8; RECORD], map: &[u8; VARIABLES], i: usize, left: usize, u: u8) -> bool
-    requires { (i + left * 7 ≤ record_room) × (96 ≤ u → 128 ≤ u) }
+// Whether the place u of an atom is a variable that goes nowhere yet and stands in the atoms still to place.
+fn place_leads(rest: &[u8], map: &[u8; VARIABLES], u: u8) -> bool
+    requires { 96 ≤ u → 128 ≤ u }
     ensures { result
-        ≡ (new_to (part_of map.now) (term_of u)
-        && any (eq_term (term_of u)) (terms (atoms_at stored first.now i left))) }
+        ≡ (new_to (part_of map.now) (term_of u) && any (eq_term (term_of u)) (terms (atoms_of rest.now))) }
 {
     if 96 <= u {
         return false;
@@ -97,24 +82,20 @@ fn place_leads(first: &[u8; RECORD], map: &[u8; VARIABLES], i: usize, left: usiz
     if map[u as usize] != 255 {
         return false;
     }
-    stands_in(first, i, left, u)
+    stands_in(rest, 0, rest.len() / 7, u)
 }
 
-// Whether the atom of first at i brings the `left` atoms after it a variable that goes nowhere yet.
-fn leads_on(first: &[u8; RECORD], map: &[u8; VARIABLES], i: usize, left: usize) -> bool
-    requires { AtomsIn stored first.now i (left + 1) }
-    ensures { result
-        ≡ leads_on
-        (part_of map.now)
-        (atom_at stored first.now i)
-        (atoms_at stored first.now (i + 7) left) }
+// Whether the first of the atoms still to place brings those after it a variable that goes nowhere yet.
+fn leads_on(rest: &[u8], map: &[u8; VARIABLES]) -> bool
+    requires { SoundAtoms rest.now × (0 < length rest.now) }
+    ensures { result ≡ leads_on (part_of map.now) (atom_at stored rest.now 0) (atoms_of (drop 7 rest.now)) }
 {
     for j in 0..6 {
-        let u = first[i + 1 + j];
+        let u = rest[1 + j];
         if u == 255 {
             return false;
         }
-        if place_leads(first, map, i + 7, left, u) {
+        if place_leads(&rest[7..], map, u) {
             return true;
         }
     }
@@ -130,71 +111,57 @@ enum Tried {
     Met,
 }
 
-// Whether no other candidate has to be tried: the atom of first at i met this one, those after it could not be placed, and
-// it brings them nothing new, so that they cannot be placed wherever it goes.
-fn gives_up(
-    first: &[u8; RECORD],
-    map: &[u8; VARIABLES],
-    i: usize,
-    left: usize,
-    tried: Tried,
-) -> bool
-    requires { AtomsIn stored first.now i (left + 1) }
+// Whether no other candidate has to be tried: the first of the atoms still to place met this one, those after it could
+// not be placed, and it brings them nothing new, so that they cannot be placed wherever it goes.
+fn gives_up(rest: &[u8], map: &[u8; VARIABLES], tried: Tried) -> bool
+    requires { SoundAtoms rest.now × (0 < length rest.now) }
     ensures { result
         ≡ (is_met tried
-        && not
-        (leads_on
-        (part_of map.now)
-        (atom_at stored first.now i)
-        (atoms_at stored first.now (i + 7) left))) }
+        && not (leads_on (part_of map.now) (atom_at stored rest.now 0) (atoms_of (drop 7 rest.now)))) }
 {
     if tried != Tried::Met {
         return false;
     }
-    !leads_on(first, map, i, left)
+    !leads_on(rest, map)
 }
 
-// Takes the next atom: places the `left` atoms of first from i on, in order, on the atoms of second, the next one on the
-// first candidate from which those after it can be placed too. A branch in which some atom has no candidate any more ends
+// Takes the next atom: places the atoms still to place, in order, on the atoms of second, the next one on the first
+// candidate from which those after it can be placed too. A branch in which some atom has no candidate any more ends
 // at once; that changes no answer. Most searches that are not `careful` find a map at the first try: they look ahead
 // only once a candidate has failed.
 // The map is lent, not given in an Option: that would copy its 96 bytes at each atom.
 #[cycle(place_next_try_candidate)]
 pub fn place_next(
-    first: &[u8; RECORD],
+    rest: &[u8],
     second: &[u8; RECORD],
     map: &mut [u8; VARIABLES],
-    i: usize,
-    left: usize,
     careful: bool,
 ) -> bool
-    requires { AtomsIn stored first.now i left × (width stored (get_or second.now 0 0) ≤ record_room) }
+    requires { SoundAtoms rest.now × (width stored (get_or second.now 0 0) ≤ record_room) }
     ensures { Searched
-        (find_map
-        (atoms_at stored first.now i left)
-        (question_of stored second.now)
-        (part_of map.old))
+        (find_map (atoms_of rest.now) (question_of stored second.now) (part_of map.old))
         map.old
         map.new
         result }
 {
-    if left == 0 {
+    if rest.is_empty() {
         return true;
     }
-    if seen_dead(first, second, map, i, left, careful) {
+    if seen_dead(rest, second, map, careful) {
         return false;
     }
     let mut looks = careful;
     for n in 0..usize::from(second[0]) {
-        let tried = try_candidate(first, second, map, i, left - 1, 1 + n * 7, looks);
+        let candidate = &second[1 + n * 7..8 + n * 7];
+        let tried = try_candidate(rest, second, map, candidate, looks);
         if tried == Tried::Placed {
             return true;
         }
-        if gives_up(first, map, i, left - 1, tried) {
+        if gives_up(rest, map, tried) {
             return false;
         }
         let met = tried == Tried::Met;
-        if seen_dead(first, second, map, i, left, met & !looks) {
+        if seen_dead(rest, second, map, met & !looks) {
             return false;
         }
         looks |= met;
@@ -202,50 +169,47 @@ pub fn place_next(
     false
 }
 
-// Tries the next candidate: the atom of first at i goes to the atom of second at k, and the `left` atoms after it are
-// placed; where they cannot be, it is taken back. Says whether it met the candidate, and whether all were placed.
+// Tries the next candidate: the first of the atoms still to place goes to it, and those after it are placed; where they
+// cannot be, it is taken back. Says whether it met the candidate, and whether all were placed.
 #[cycle(place_next_try_candidate)]
 fn try_candidate(
-    first: &[u8; RECORD],
+    rest: &[u8],
     second: &[u8; RECORD],
     map: &mut [u8; VARIABLES],
-    i: usize,
-    left: usize,
-    k: usize,
+    candidate: &[u8],
     careful: bool,
 ) -> Tried
-    requires { AtomsIn stored first.now i (left + 1)
-        × (k + 7 ≤ record_room)
+    requires { SoundAtoms rest.now
+        × (0 < length rest.now)
+        × (7 ≤ length candidate.now)
         × (width stored (get_or second.now 0 0) ≤ record_room) }
     ensures searched { Searched
         (placed_on
-        (atom_at stored first.now i)
-        (atoms_at stored first.now (i + 7) left)
+        (atom_at stored rest.now 0)
+        (atoms_of (drop 7 rest.now))
         (question_of stored second.now)
         (part_of map.old)
-        (atom_at stored second.now k))
+        (atom_at stored candidate.now 0))
         map.old
         map.new
         (is_placed result) }
     ensures met { result ≡ Tried.Met
-        → is_some
-        (place_atom
-        (part_of map.old)
-        (atom_at stored first.now i)
-        (atom_at stored second.now k))
+        → is_some (place_atom (part_of map.old) (atom_at stored rest.now 0) (atom_at stored candidate.now 0))
         ≡ true }
 {
-    if first[i] != second[k] {
+    if rest[0] != candidate[0] {
         return Tried::Apart;
     }
-    if !terms_meet(first, second, map, i + 1, k + 1) {
+    let terms = &rest[1..7];
+    let others = &candidate[1..7];
+    if !terms_meet(terms, others, map) {
         return Tried::Apart;
     }
-    let before = send(first, second, map, i + 1, k + 1);
-    if place_next(first, second, map, i + 7, left, careful) {
+    let before = send(terms, others, map);
+    if place_next(&rest[7..], second, map, careful) {
         return Tried::Placed;
     }
-    take_back(first, map, i + 1, before);
+    take_back(terms, map, before);
     Tried::Met
 }
 
@@ -261,7 +225,7 @@ pub fn covers_sound(first: &[u8; RECORD], second: &[u8]) -> bool
     }
     let held = copy_record(second);
     let mut map = [255u8; VARIABLES];
-    place_next(first, &held, &mut map, 1, first[0] as usize, true)
+    place_next(atoms(first), &held, &mut map, true)
 }
 
 // The same with first's first atom, which it has, on atom k of second: what a loop over candidates asks. The map is
@@ -286,6 +250,11 @@ pub fn covers_on(first: &[u8], second: &[u8; RECORD], map: &mut [u8; VARIABLES],
         return false;
     }
     let held = copy_record(first);
-    let n = held[0] as usize;
-    try_candidate(&held, second, map, 1, n - 1, 1 + k * 7, false) == Tried::Placed
+    try_candidate(
+        atoms(&held),
+        second,
+        map,
+        &second[1 + k * 7..8 + k * 7],
+        false,
+    ) == Tried::Placed
 }

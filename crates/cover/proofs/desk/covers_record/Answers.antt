@@ -55,11 +55,14 @@ widened-one-requires c = c.requires.0
 pub widened-two-requires : goal.widened-two-requires
 widened-two-requires c = c.requires.1
 
+pub atoms-requires : goal.atoms-requires
+atoms-requires c = (held_within _ _ (fits c.args.w c.args.first.now c.requires.0) c.widened-one.ensures).0
+
 pub place_next-requires : goal.place_next-requires
 place_next-requires c =
     let a = c.args in
     let room : length c.widened-two.result ≡ record_room = search rules in (
-      (held_within _ _ (fits a.w a.first.now c.requires.0) c.widened-one.ensures).0,
+      c.atoms.ensures.sound,
       rw (← room) (held_within _ _ (fits a.w a.second.now c.requires.1) c.widened-two.ensures).0.fits,
     )
 
@@ -80,7 +83,9 @@ returns c =
     ) in
     let e =
     ap₂ (λ A B. find_map A B (part_of a.map.now))
-    (held_within _ _ (fits a.w a.first.now c.requires.0) c.widened-one.ensures).1
+    (c.atoms.ensures.atoms
+    ∙ question_at_lem stored _ refl
+    ∙ (held_within _ _ (fits a.w a.first.now c.requires.0) c.widened-one.ensures).1)
     (question_at_lem stored _ refl ∙ (held_within _ _ (fits a.w a.second.now c.requires.1) c.widened-two.ensures).1)
     ∙ ap (find_map _ _) (ap part_of c.requires.2 ∙ part_nowhere 96)
     ∙ sym

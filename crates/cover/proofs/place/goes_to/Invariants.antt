@@ -5,4 +5,4 @@ use Rattle.cover.specs.HeldMap.{sent_to}
 use Rattle.cover.proofs.place.goes_to.Given as goal
 
 abbrev pub invariant-loop-n : goal.invariant-loop-n
-invariant-loop-n l = get_or (sent_to l.map l.first l.second l.i l.k l.n) l.t 0 ≡ 255
+invariant-loop-n l = get_or (sent_to l.map l.terms l.others l.n) l.t 0 ≡ 255

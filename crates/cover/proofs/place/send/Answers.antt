@@ -2,33 +2,31 @@
 -- kept.
 use native.Mathlib.Omega.{arith}
 use mathlib.Core.Path.{◌≡◌, refl, sym, ◌∙◌}
-use native.Mathlib.Nat.{add-zero}
 use Prim.Native.Nat.{◌-◌}
-use Rattle.covering.specs.Record.{stored}
-use Rattle.covering.proofs.Bytes.{used_more}
+use Rattle.cover.proofs.Parts.{used_on}
 use Rattle.cover.proofs.Sent.{sent_none, sent_more, had_none, had_more}
 use Rattle.cover.proofs.Meeting.{stops, sent_end, had_end}
 use Rattle.cover.proofs.place.send.Goals as goal
 
 pub loop-j-init : goal.loop-j-init
-loop-j-init c = (sym (sent_none _ _ _ _ _), had_none _ _ _ _ _ _ refl, rw add-zero c.requires.2)
+loop-j-init c = (sym (sent_none _ _ _), had_none _ _ _ _ refl, c.requires.2)
 
 pub returns-then-t : goal.returns-then-t
 returns-then-t c =
     let a = c.args in
     let j = c.loop-j.j in
-    let free = stops a.map.now a.first.now a.second.now a.i a.k 6 j (omega arith) c.loop-j.invariant.2 c.if-t.true in (
-      c.loop-j.invariant.0 ∙ sym (sent_end _ _ _ _ _ 6 (6 - j) j (omega arith) free),
-      had_end _ _ _ _ _ 6 _ (6 - j) j (omega arith) free c.loop-j.invariant.1,
+    let free = stops a.map.now a.terms.now a.others.now 6 j (omega arith) c.loop-j.invariant.2 c.if-t.true in (
+      c.loop-j.invariant.0 ∙ sym (sent_end _ _ _ 6 (6 - j) j (omega arith) free),
+      had_end _ _ _ 6 _ (6 - j) j (omega arith) free c.loop-j.invariant.1,
     )
 
 pub loop-j-preserved : goal.loop-j-preserved
 loop-j-preserved c =
     let s = c.send_term in
     let a = c.args in (
-      s.ensures.0 ∙ rw c.loop-j.invariant.0 (sym (sent_more _ _ _ _ _ _)),
-      had_more _ _ _ _ _ _ _ _ (omega arith) c.loop-j.invariant.1 (s.ensures.1 ∙ rw c.loop-j.invariant.0 refl),
-      (used_more a.first.now a.i c.loop-j.j 6 (omega arith) stored c.loop-j.invariant.2 c.if-t.false).1,
+      s.ensures.0 ∙ rw c.loop-j.invariant.0 (sym (sent_more _ _ _ _)),
+      had_more _ _ _ _ _ _ (omega arith) c.loop-j.invariant.1 (s.ensures.1 ∙ rw c.loop-j.invariant.0 refl),
+      (used_on a.terms.now c.loop-j.j 6 (omega arith) c.loop-j.invariant.2 c.if-t.false).1,
     )
 
 pub returns : goal.returns

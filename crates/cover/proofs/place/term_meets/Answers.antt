@@ -1,7 +1,7 @@
 -- `cover::place::term_meets` meets its contract: each way through the code is one law of the map as it is held.
 use native.Mathlib.Omega.{arith}
 use mathlib.Core.Path.{◌≡◌, sym, ap, ◌∙◌}
-use Prim.Native.Nat.{◌+◌, ◌<◌}
+use Prim.Native.Nat.{◌<◌}
 use lib.Dec.{eqb}
 use borrow.Author.Rules.{rules}
 use lib.ListN.{length, get_or}
@@ -21,18 +21,21 @@ goes_to-goes-requires c = (omega arith, omega arith, omega arith, c.requires.2)
 pub returns-then-goes : goal.returns-then-goes
 returns-then-goes c =
     let a = c.args in
-    let W = sent_to a.map.now a.first.now a.second.now a.i a.k a.j in
-    let v : get_or a.first.now (a.i + a.j) 0 < 96 = omega arith in
+    let W = sent_to a.map.now a.terms.now a.others.now a.j in
+    let v : get_or a.terms.now a.j 0 < 96 = omega arith in
     let long : length a.map.now ≡ 96 = search rules in
-    let size : length W ≡ 96 = length_sent _ _ _ _ _ _ ∙ long in
+    let size : length W ≡ 96 = length_sent _ _ _ _ ∙ long in
     sym (ap is_some (place_new W _ _ (omega arith) (omega arith) c.requires.3 (sym c.goes_to-goes.ensures ∙ c.if-goes.true)))
 
 pub returns : goal.returns
 returns c =
     let g = c.goes_to-goes.ensures in
     let a = c.args in
-    let W = sent_to a.map.now a.first.now a.second.now a.i a.k a.j in
-    let v : get_or a.first.now (a.i + a.j) 0 < 96 = omega arith in
+    let W = sent_to a.map.now a.terms.now a.others.now a.j in
+    let v : get_or a.terms.now a.j 0 < 96 = omega arith in
     let long : length a.map.now ≡ 96 = search rules in
-    let size : length W ≡ 96 = length_sent _ _ _ _ _ _ ∙ long in
-    sym (ap is_some (place_old W _ _ (omega arith) (omega arith) (λ e. c.if-goes.false (g ∙ e))) ∙ some_if _ _ ∙ ap (λ b. eqb b (get_or a.second.now (a.k + a.j) 0)) (sym g))
+    let size : length W ≡ 96 = length_sent _ _ _ _ ∙ long in
+    sym
+    (ap is_some (place_old W _ _ (omega arith) (omega arith) (λ e. c.if-goes.false (g ∙ e)))
+    ∙ some_if _ _
+    ∙ ap (λ b. eqb b (get_or a.others.now a.j 0)) (sym g))

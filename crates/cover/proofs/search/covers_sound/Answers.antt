@@ -1,12 +1,11 @@
 -- `cover::search::covers_sound` meets its contract: where first's relations are not among second's it does not cover;
 -- else a sound record counts all its atoms, and the search starts at the first, with no variable placed.
 use borrow.Author.Rules.{rules}
-use mathlib.Core.Path.{◌≡◌, refl, sym, ap, ap₂, ◌∙◌}
+use mathlib.Core.Path.{◌≡◌, sym, ap, ap₂, ◌∙◌}
 use lib.ListN.{length, replicate}
 use Rattle.covering.specs.Search.{find_map, first_map, covers}
 use Rattle.covering.specs.Record.{stored, question_of}
 use Rattle.covering.specs.Buffer.{record_room}
-use Rattle.covering.proofs.Places.{question_at_lem}
 use Rattle.covering.proofs.Within.{sound_in}
 use Rattle.records.proofs.Among.{not_among}
 use Rattle.records.proofs.Copied.{copy_sound, copy_same}
@@ -19,11 +18,14 @@ returns-then-not-are_among c =
     let among = sym c.are_among.ensures ∙ c.if-not-are_among.true in
     sym (not_among _ _ c.relations.ensures among)
 
+pub atoms-requires : goal.atoms-requires
+atoms-requires c = sound_in stored _ c.requires.0
+
 pub place_next-requires : goal.place_next-requires
 place_next-requires c =
     let held = copy_sound _ _ c.requires.1 c.copy_record-held.ensures in
     let room : length c.copy_record-held.result ≡ record_room = search rules in
-    (sound_in stored _ c.requires.0, rw (← room) held.fits)
+    (c.atoms.ensures.sound, rw (← room) held.fits)
 
 pub returns : goal.returns
 unfolding covers first_map
@@ -33,5 +35,5 @@ returns c =
     said_yes _ _ _
     (c.place_next.ensures.finds
     ∙ ap (λ A. find_map A (question_of stored c.copy_record-held.result) (part_of (replicate 96 255)))
-    (sym (question_at_lem stored F refl))
+    c.atoms.ensures.atoms
     ∙ ap₂ (find_map (question_of stored F)) same (part_nowhere 96))

@@ -10,5 +10,5 @@ use Rattle.cover.specs.Candidates.{has_candidate}
 use Rattle.cover.proofs.search.has_candidate.Given as goal
 
 abbrev pub invariant-loop-n : goal.invariant-loop-n
-invariant-loop-n l = has_candidate (part_of l.map) (question_of stored l.second) (atom_at stored l.first l.i)
-    ≡ has_candidate (part_of l.map) (atoms_at stored l.second (1 + l.n * 7) (get_or l.second 0 0 - l.n)) (atom_at stored l.first l.i)
+invariant-loop-n l = has_candidate (part_of l.map) (question_of stored l.second) (atom_at stored l.atom 0)
+    ≡ has_candidate (part_of l.map) (atoms_at stored l.second (1 + l.n * 7) (get_or l.second 0 0 - l.n)) (atom_at stored l.atom 0)
