@@ -187,25 +187,27 @@ pub fn put_on(kept: &mut Held, table: &[u8; 96], from: &[u8], at: usize)
     put_atom(kept, &atom, 0);
 }
 
-// The record with its variables numbered by first appearance.
-fn renumbered(member: &Record<'_>) -> Held
-    ensures { result ≡ renumber member.now }
+// Puts the record, its variables numbered by first appearance, in a record with no atom yet, which is lent.
+fn put_renumbered(member: &Record<'_>, out: &mut Held)
+    requires { out.old ≡ [] }
+    ensures { out.new ≡ renumber member.now }
 {
     let table = numbers_of(member);
-    let mut out = Held::empty();
     for k in 0..usize::from(member.bytes[0]) {
-        put_on(&mut out, &table, member.bytes, 1 + k * 7);
+        put_on(out, &table, member.bytes, 1 + k * 7);
     }
-    out
 }
 
-// The form of the record: equal atoms dropped but for the first, then variables numbered.
-pub fn in_form(member: &Record<'_>) -> Held
-    ensures { result ≡ form member.now }
+// The form of the record, equal atoms dropped but for the first, then variables numbered: in a record with no atom yet,
+// which is lent, so that it is not copied.
+pub fn in_form(member: &Record<'_>, out: &mut Held)
+    requires { out.old ≡ [] }
+    ensures { out.new ≡ form member.now }
 {
     if all_differ(member) {
-        return renumbered(member);
+        put_renumbered(member, out);
+        return;
     }
     let kept = drop_equal(member);
-    renumbered(&kept.lent())
+    put_renumbered(&kept.lent(), out);
 }

@@ -5,8 +5,8 @@ use Rattle.forming.proofs.formed.in_form.Goals as goal
 
 pub returns-then-all_differ : goal.returns-then-all_differ
 unfolding form
-returns-then-all_differ c = c.renumbered.ensures ∙ ap renumber (sym (c.all_differ.ensures c.if-all_differ.true))
+returns-then-all_differ c = c.put_renumbered.ensures ∙ ap renumber (sym (c.all_differ.ensures c.if-all_differ.true))
 
 pub returns : goal.returns
 unfolding form
-returns c = c.renumbered-2.ensures ∙ ap renumber (c.lent.ensures ∙ c.drop_equal-kept.ensures)
+returns c = c.put_renumbered-2.ensures ∙ ap renumber (c.lent.ensures ∙ c.drop_equal-kept.ensures)

@@ -1,4 +1,4 @@
--- `forming::formed::renumbered` meets its contract. The loop's invariant: the atoms passed are put renumbered, and with
+-- `forming::formed::put_renumbered` meets its contract. The loop's invariant: the atoms passed are put renumbered, and with
 -- those from here on they are no more than twelve.
 use native.Mathlib.Omega.{arith}
 use mathlib.Core.Path.{refl, sym, ap, ap₂, ◌∙◌}
@@ -14,10 +14,10 @@ use Rattle.covering.proofs.Within.{sound_in}
 use Rattle.records.proofs.Onward.{nth, nth_in}
 use Rattle.forming.proofs.Passing.{question_left, split_done, split_in, split_next}
 use Rattle.forming.proofs.Growing.{table_numbers, table_fits}
-use Rattle.forming.proofs.formed.renumbered.Goals as goal
+use Rattle.forming.proofs.formed.put_renumbered.Goals as goal
 
 pub loop-k-init : goal.loop-k-init
-loop-k-init c = rw c.empty-out.ensures (
+loop-k-init c = rw c.requires (
   omega (arith, c.member.invariant.most),
   ([], refl, sym c.member.view_is ∙ question_left c.member.inside.bytes.now),
 )

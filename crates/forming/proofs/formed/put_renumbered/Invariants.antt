@@ -1,4 +1,4 @@
--- `forming::formed::renumbered` meets its contract. The loop's invariant: the atoms passed are put renumbered, and with
+-- `forming::formed::put_renumbered` meets its contract. The loop's invariant: the atoms passed are put renumbered, and with
 -- those from here on they are no more than twelve.
 use mathlib.Core.Path.{◌≡◌}
 use mathlib.Core.List.{◌++◌}
@@ -7,7 +7,7 @@ use lib.ListN.{length, get_or}
 use Rattle.covering.specs.Term.{Question, on_question}
 use Rattle.covering.specs.Form.{numbering}
 use Rattle.forming.proofs.Passing.{left}
-use Rattle.forming.proofs.formed.renumbered.Given as goal
+use Rattle.forming.proofs.formed.put_renumbered.Given as goal
 
 abbrev pub invariant-loop-k : goal.invariant-loop-k
 invariant-loop-k l =
