@@ -56,7 +56,7 @@ fn tell_atom<W: Write>(out: &mut W, atom: &[u8]) -> io::Result<()> {
 // Where a place goes by the map: a constant and an unused place stay.
 fn image(map: &[u8; MAP], b: u8) -> u8 {
     if b < 66 {
-        return map[b as usize];
+        return map[usize::from(b)];
     }
     b
 }
