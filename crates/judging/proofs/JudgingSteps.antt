@@ -22,7 +22,8 @@ use Rattle.reading.specs.Header.{header_size, relations, rules, atoms, question_
 use Rattle.reading.specs.Header.{atom_size, atom_places, question_atoms_at}
 use Rattle.reading.specs.Book.{body_count, head_count, body_at, rule_end, rules_start, places_of}
 use Rattle.reading.specs.Verdict.{wrong_places, rule_right, wrong_rule, wrong_place, wrong_in_atom, wrong_in_atoms}
-use Rattle.reading.specs.Verdict.{wrong_in_rules, wrong_in_question, wrong_byte, loose_variable, refuse, told, accepted, in_table}
+use Rattle.reading.specs.Verdict.{wrong_in_rules, wrong_in_question, wrong_byte, loose_variable, refuse, told, accepted}
+use Rattle.reading.specs.Verdict.{in_table}
 use Rattle.reading.specs.Verdict.{offsets_right, contents, verdict}
 use Rattle.judging.specs.Judged.{wrong_record}
 use Rattle.reading.proofs.Conditions.{rule_right_lem}
@@ -58,7 +59,8 @@ module _ (n : ℕ) (o : Option ℕ) where
   passes_there r l h = rw (found_none l h)
 
 -- what a `?` hands on
-pub handed : (r : Result Unit Refused) (e : Refused) {t : Refusal} → IsErrAnd r (λ x. x ≡ e) → judged (Err e) ≡ t → judged r ≡ t
+pub handed : (r : Result Unit Refused) (e : Refused) {t : Refusal} → IsErrAnd r (λ x. x ≡ e) → judged (Err e) ≡ t
+    → judged r ≡ t
 handed r e h d = let p = err_from_is_err_and r h in rw (p.1, p.2) d
 
 module _ (B : List ℕ) where
@@ -92,7 +94,8 @@ module _ (B : List ℕ) where
   pub end_right : (e s next : ℕ) → Some next ≡ cond (rule_right B e s) (Some (rule_end B s)) None
       → (rule_right B e s ≡ true) × (next ≡ rule_end B s)
   end_right e s next =
-      elim (rule_right B e s) as (λ b. Some next ≡ cond b (Some (rule_end B s)) None → (b ≡ true) × (next ≡ rule_end B s))
+      elim (rule_right B e s) as (λ b. Some next ≡ cond b (Some (rule_end B s)) None
+          → (b ≡ true) × (next ≡ rule_end B s))
       [ true ↦ λ h. (refl, cc) | false ↦ λ h. cc ]
 
   -- what is known of the next of n - k rules that are right

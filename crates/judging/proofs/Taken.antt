@@ -1,5 +1,6 @@
 -- The places before the first 255, as `take_while` gives them, are the used ones. Assumes nothing.
-use Rattle.std.proofs.Common.{◌≡◌, ℕ, zero, suc, ◌+◌, ◌<◌, Bool, true, false, not, ◌||◌, List, length, take_while, eqb, refl, sym, ◌∙◌}
+use Rattle.std.proofs.Common.{◌≡◌, ℕ, zero, suc, ◌+◌, ◌<◌, Bool, true, false, not, ◌||◌, List, length, take_while, eqb}
+use Rattle.std.proofs.Common.{refl, sym, ◌∙◌}
 use Rattle.std.proofs.Common.{ap, ap₂, arith}
 use Rattle.std.specs.List.{range_with_len, list_any}
 use Rattle.std.proofs.lemmas.List.Sums.{take_while-cons}
@@ -42,4 +43,5 @@ module _ (B : List ℕ) where
             → list_any (λ j. eqb b (byte B j)) (taken (i + 1) n) ≡ any (eq_term (var b)) (args_at B (i + 1) n)
             → list_any (λ j. eqb b (byte B j)) (taken i (suc n)) ≡ any (eq_term (var b)) (args_at B i (suc n))
         one true e h = rw (take_while-cons is_used i (range_with_len (i + 1) n), e)
-        one false e h = rw (take_while-cons is_used i (range_with_len (i + 1) n), e) (ap₂ ◌||◌ (is_variable (byte B i)) h)
+        one false e h = rw (take_while-cons is_used i (range_with_len (i + 1) n), e)
+            (ap₂ ◌||◌ (is_variable (byte B i)) h)

@@ -3,24 +3,19 @@ use Rattle.std.proofs.Common.{◌≡◌, ◌+◌, ◌*◌, ◌-◌, ℕ, sym, �
 use Rattle.covering.specs.Lists.{any}
 use Rattle.covering.specs.Term.{var, terms, eq_term}
 use Rattle.covering.specs.Record.{holding, atoms_at}
-use Rattle.judging.proofs.AnswerSteps.{no_variable, is_variable, stands_end, stands_found, stands_next}
+use Rattle.judging.proofs.AnswerSteps.{is_variable, stands_end, stands_found, stands_next}
 use Rattle.judging.proofs.answer.stands.Goals as goal
-
-pub returns-then-variables-b : goal.returns-then-variables-b
-returns-then-variables-b c =
-    let a = c.args in
-    sym
-    (no_variable (8 * a.w) (atoms_at (holding a.w) a.book.now a.i a.n) a.b
-    (omega (arith, c.variables.ensures, c.if-variables-b.true)))
 
 pub returns-then-stands_at : goal.returns-then-stands_at
 returns-then-stands_at c =
     let a = c.args in
     let at = a.i + (1 + a.w) * c.loop-k.k in
     sym
-    (is_variable (8 * a.w) (atoms_at (holding a.w) a.book.now a.i a.n) a.b (omega (arith, c.variables.ensures, c.if-variables-b.false))
+    (is_variable (8 * a.w) (atoms_at (holding a.w) a.book.now a.i a.n) a.b
+        (omega (arith, c.variables.ensures, c.if-variables-b.false))
     ∙ c.loop-k.invariant
-    ∙ stands_found a.book.now a.b a.w at a.n c.loop-k.k c.loop-k-test.true (sym c.stands_at.ensures ∙ c.if-stands_at.true))
+    ∙ stands_found a.book.now a.b a.w at a.n c.loop-k.k c.loop-k-test.true
+        (sym c.stands_at.ensures ∙ c.if-stands_at.true))
 
 pub loop-k-preserved : goal.loop-k-preserved
 loop-k-preserved c =
@@ -28,7 +23,8 @@ loop-k-preserved c =
     let at = a.i + (1 + a.w) * c.loop-k.k in
     let on : at + 1 + a.w ≡ a.i + (1 + a.w) * (c.loop-k.k + 1) = omega arith in
     c.loop-k.invariant
-    ∙ stands_next a.book.now a.b a.w at a.n c.loop-k.k c.loop-k-test.true (sym c.stands_at.ensures ∙ c.if-stands_at.false)
+    ∙ stands_next a.book.now a.b a.w at a.n c.loop-k.k c.loop-k-test.true
+        (sym c.stands_at.ensures ∙ c.if-stands_at.false)
     ∙ ap (λ (j : ℕ). any (eq_term (var a.b)) (terms (atoms_at (holding a.w) a.book.now j (a.n - (c.loop-k.k + 1))))) on
 
 pub returns : goal.returns
@@ -36,6 +32,7 @@ returns c =
     let a = c.args in
     let at = a.i + (1 + a.w) * c.loop-k.k in
     sym
-    (is_variable (8 * a.w) (atoms_at (holding a.w) a.book.now a.i a.n) a.b (omega (arith, c.variables.ensures, c.if-variables-b.false))
+    (is_variable (8 * a.w) (atoms_at (holding a.w) a.book.now a.i a.n) a.b
+        (omega (arith, c.variables.ensures, c.if-variables-b.false))
     ∙ c.loop-k.invariant
     ∙ stands_end a.book.now a.b a.w at a.n c.loop-k.k c.loop-k-test.false)

@@ -26,27 +26,6 @@ tested : (h : Header) (size : ℕ) {f w x y : ℕ} → f ≡ (form_in h).header 
 unfolding offsets_right
 tested h size first places without with_it = cc
 
-pub overflow_add-s : goal.overflow_add-s
-overflow_add-s c =
-    let t = c.args.h.table in
-    omega (arith, is_header _ _ c.told_by-form.ensures c.header-first.ensures, (for_known t).few_header)
-
-pub atoms_size-requires : goal.atoms_size-requires
-atoms_size-requires c =
-    let h = c.args.h in
-    (few h (is_places _ _ c.told_by-form.ensures c.places-w.ensures), omega arith)
-
-pub overflow_add-e : goal.overflow_add-e
-overflow_add-e c = omega (arith, c.atoms_size.ensures.1)
-
-pub atoms_size-requires-2 : goal.atoms_size-requires-2
-atoms_size-requires-2 c = (few c.args.h (is_places _ _ c.told_by-form.ensures c.places-w.ensures), omega arith)
-
-pub overflow_add-a : goal.overflow_add-a
-overflow_add-a c =
-    let most : c.atoms_size-2.result ≤ 7 * (c.args.h.atoms + 1) = c.atoms_size-2.ensures.1 in
-    omega (arith, most, c.requires.1, c.requires.2)
-
 pub returns : goal.returns
 returns c =
     let a = c.args in

@@ -6,9 +6,6 @@ use Rattle.reading.proofs.Conditions.{rule_right_lem}
 use Rattle.covering.proofs.Tests.{true→T}
 use Rattle.judging.proofs.judge.wrong_rule.Goals as goal
 
-pub rule_end-requires : goal.rule_end-requires
-rule_end-requires c = (c.loop-rule.invariant.0, c.requires.1, c.requires.2)
-
 pub returns-in_default : goal.returns-in_default
 returns-in_default c =
     let e = end_wrong _ _ _ (sym c.rule_end.ensures ∙ c.in_default.is) in
@@ -31,4 +28,5 @@ returns-then-s-end c =
     ap (told 6) (sym (c.loop-rule.invariant.1 ∙ rules_end_wrong _ _ _ _ _ c.loop-rule-test.false c.if-s-end.true))
 
 pub returns : goal.returns
-returns c = ap (told 6) (sym (c.loop-rule.invariant.1 ∙ rules_end_right _ _ _ _ _ c.loop-rule-test.false c.if-s-end.false))
+returns c = ap (told 6) (sym (c.loop-rule.invariant.1
+    ∙ rules_end_right _ _ _ _ _ c.loop-rule-test.false c.if-s-end.false))

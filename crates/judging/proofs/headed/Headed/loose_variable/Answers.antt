@@ -28,4 +28,5 @@ returns c =
     let h = c.args.self.header in
     let t = is_announced B (λ d. c.if-answers-eq0.false (is_records r c.answers.ensures ∙ d)) in
     c.loose_from.ensures
-    ∙ ap (told 11) (sym (variables_from B t h.question h.atoms h.places (is_question r) (is_atoms r) (known r).places_are))
+    ∙ ap (told 11) (sym (variables_from B t h.question h.atoms h.places (is_question r) (is_atoms r)
+        (known r).places_are))

@@ -22,7 +22,8 @@ module _ {B : List ℕ} {h : Header} (r : HeaderRight B h) (i n k : ℕ) (l : k 
   at = i + (1 + h.places) * k
 
   -- what is left from it on
-  left : wrong_in_atoms B at (n - k) ≡ or_else (wrong_in_atom B at) (wrong_in_atoms B (i + (1 + h.places) * (k + 1)) (n - (k + 1)))
+  left : wrong_in_atoms B at (n - k) ≡ or_else (wrong_in_atom B at)
+      (wrong_in_atoms B (i + (1 + h.places) * (k + 1)) (n - (k + 1)))
   left =
       let on : at + (1 + h.places) ≡ i + (1 + h.places) * (k + 1) = omega arith in
       atoms_more B at n k l

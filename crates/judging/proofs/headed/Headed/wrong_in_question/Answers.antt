@@ -28,11 +28,6 @@ atoms_size-requires c =
     let r = c.args.self.right in
     (few_places r, omega (arith, is_records r c.answers.ensures, records_few c.args.self.book.now))
 
-pub overflow_add-i : goal.overflow_add-i
-overflow_add-i c =
-    let r = c.args.self.right in
-    omega (arith, after r (is_records r c.answers.ensures) c.atoms_size.ensures.0, (known r).ends)
-
 pub wrong_in_atoms-requires : goal.wrong_in_atoms-requires
 wrong_in_atoms-requires c =
     let r = c.args.self.right in

@@ -12,7 +12,8 @@ use Rattle.judging.proofs.JudgingSteps.{handed, stops_else, passes_else, NextRul
 use Rattle.judging.proofs.headed.Headed.wrong_in_rules.Goals as goal
 
 -- the rule of a turn, at s, by the counts x and y that were read
-module _ {B : List ℕ} {h : Header} (r : HeaderRight B h) (e s n k : ℕ) (l : k < n) (right : wrong_rule B e s (n - k) ≡ none)
+module _ {B : List ℕ} {h : Header} (r : HeaderRight B h) (e s n k : ℕ) (l : k < n)
+    (right : wrong_rule B e s (n - k) ≡ none)
   where
     rule : NextRule B e s (n - (k + 1))
     rule = next_rule B e s n k l right
