@@ -8,7 +8,7 @@ use mathlib.Core.Option.{none, some}
 use Prim.Native.Nat.{ℕ, ◌+◌, ◌-◌, ◌≤◌, ◌<◌}
 use native.Mathlib.Nat.{sub-eq-zero_of_le}
 use native.Mathlib.Omega.{arith}
-use borrow.Author.Tests.{eq-eqb, ne_eqb, lt-ltb, le-ltb}
+use borrow.Author.Tests.{eq-eqb, ne_eqb, lt-ltb}
 use Rattle.covering.specs.Lists.{any}
 use Rattle.covering.specs.Term.{Term, var, Question, terms, eq_term}
 use Rattle.covering.specs.Asking.{answer_relation, answer_most}
@@ -122,10 +122,7 @@ module _ (B : List ℕ) where
           ≡ has b (terms (atoms_at (holding p) B (i + 1 + p) (n - (k + 1))))
       stands_next e = stands_more h ∙ rw e
 
--- a byte that is none of m variables stands wherever it likes
+-- a byte that is one of m variables stands where it is one of the terms
 module _ (m : ℕ) (A : Question) (b : ℕ) where
-  pub no_variable : m ≤ b → stands_in m A b ≡ true
-  no_variable h = rw (le-ltb b m h)
-
   pub is_variable : b < m → stands_in m A b ≡ has b (terms A)
   is_variable h = rw (lt-ltb b m h)

@@ -1,19 +1,12 @@
 -- The tests together, each by the sizes of the form that was found. Assumes nothing.
-use native.Mathlib.Omega.{arith}
 use mathlib.Core.Path.{◌≡◌}
 use mathlib.Core.Bool.{◌&&◌, ◌||◌}
-use Prim.Native.Nat.{ℕ, ◌+◌, ◌*◌, ◌≤◌}
+use Prim.Native.Nat.{ℕ, ◌+◌, ◌*◌}
 use lib.Dec.{eqb, leb}
-use Rattle.covering.specs.Record.{new_places}
 use Rattle.reading.specs.declared.Header.{Header}
 use Rattle.reading.specs.Verdict.{form_in, offsets_right}
-use Rattle.reading.proofs.Forms.{for_known}
 use Rattle.judging.proofs.JudgedHeader.{is_header, is_places}
 use Rattle.judging.proofs.header.offsets_right.Goals as goal
-
--- an atom has six places at most
-few : (h : Header) {w : ℕ} → w ≡ (form_in h).places → w ≤ new_places
-few h e = omega (arith, (for_known h.table).few_places)
 
 -- the tests by the header's size f and the places w that were found, and the sizes x and y of the atoms
 tested : (h : Header) (size : ℕ) {f w x y : ℕ} → f ≡ (form_in h).header → w ≡ (form_in h).places
