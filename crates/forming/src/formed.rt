@@ -187,21 +187,20 @@ pub fn put_on(kept: &mut Held, table: &[u8; 96], from: &[u8], at: usize)
     put_atom(kept, &atom, 0);
 }
 
-// Puts the record, its variables numbered by first appearance, in a record with no atom yet, which is lent.
+// Puts the record, its variables numbered by first appearance, in the room of one that is lent.
 fn put_renumbered(member: &Record<'_>, out: &mut Held)
-    requires { out.old ≡ [] }
     ensures { out.new ≡ renumber member.now }
 {
     let table = numbers_of(member);
+    *out = Held::empty();
     for k in 0..usize::from(member.bytes[0]) {
         put_on(out, &table, member.bytes, 1 + k * 7);
     }
 }
 
-// The form of the record, equal atoms dropped but for the first, then variables numbered: in a record with no atom yet,
-// which is lent, so that it is not copied.
+// The form of the record, equal atoms dropped but for the first, then variables numbered: in the room of one that is
+// lent, so that it is not copied.
 pub fn in_form(member: &Record<'_>, out: &mut Held)
-    requires { out.old ≡ [] }
     ensures { out.new ≡ form member.now }
 {
     if all_differ(member) {
