@@ -46,7 +46,7 @@ module _ (B : List ℕ) (i n : ℕ) (r : Maybe ℕ) where
   unfolding wrong_place
   place_told u k c e d h =
       first_told (λ j. place_allowed k c (ltb (j - i) u) (byte B j)) (λ a m. wrong_place B u i (a - i) m) i 7
-          (λ a. refl)
+      (λ a. refl)
       (λ a m l.
       let here : i + (a - i) ≡ a = omega arith in
       let next : a - i + 1 ≡ a + 1 - i = omega arith in

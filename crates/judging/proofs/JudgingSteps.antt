@@ -95,7 +95,7 @@ module _ (B : List ℕ) where
       → (rule_right B e s ≡ true) × (next ≡ rule_end B s)
   end_right e s next =
       elim (rule_right B e s) as (λ b. Some next ≡ cond b (Some (rule_end B s)) None
-          → (b ≡ true) × (next ≡ rule_end B s))
+      → (b ≡ true) × (next ≡ rule_end B s))
       [ true ↦ λ h. (refl, cc) | false ↦ λ h. cc ]
 
   -- what is known of the next of n - k rules that are right

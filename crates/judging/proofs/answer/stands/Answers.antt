@@ -12,10 +12,10 @@ returns-then-stands_at c =
     let at = a.i + (1 + a.w) * c.loop-k.k in
     sym
     (is_variable (8 * a.w) (atoms_at (holding a.w) a.book.now a.i a.n) a.b
-        (omega (arith, c.variables.ensures, c.if-variables-b.false))
+    (omega (arith, c.variables.ensures, c.if-variables-b.false))
     ∙ c.loop-k.invariant
     ∙ stands_found a.book.now a.b a.w at a.n c.loop-k.k c.loop-k-test.true
-        (sym c.stands_at.ensures ∙ c.if-stands_at.true))
+    (sym c.stands_at.ensures ∙ c.if-stands_at.true))
 
 pub loop-k-preserved : goal.loop-k-preserved
 loop-k-preserved c =
@@ -24,7 +24,7 @@ loop-k-preserved c =
     let on : at + 1 + a.w ≡ a.i + (1 + a.w) * (c.loop-k.k + 1) = omega arith in
     c.loop-k.invariant
     ∙ stands_next a.book.now a.b a.w at a.n c.loop-k.k c.loop-k-test.true
-        (sym c.stands_at.ensures ∙ c.if-stands_at.false)
+    (sym c.stands_at.ensures ∙ c.if-stands_at.false)
     ∙ ap (λ (j : ℕ). any (eq_term (var a.b)) (terms (atoms_at (holding a.w) a.book.now j (a.n - (c.loop-k.k + 1))))) on
 
 pub returns : goal.returns
@@ -33,6 +33,6 @@ returns c =
     let at = a.i + (1 + a.w) * c.loop-k.k in
     sym
     (is_variable (8 * a.w) (atoms_at (holding a.w) a.book.now a.i a.n) a.b
-        (omega (arith, c.variables.ensures, c.if-variables-b.false))
+    (omega (arith, c.variables.ensures, c.if-variables-b.false))
     ∙ c.loop-k.invariant
     ∙ stands_end a.book.now a.b a.w at a.n c.loop-k.k c.loop-k-test.false)

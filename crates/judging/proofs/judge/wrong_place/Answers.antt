@@ -21,5 +21,5 @@ returns c =
     c.refused_at.ensures
     ∙ place_told B a.i a.n c.find-wrong.result a.used k a.c many c.requires.3
     (find_from_yields_List (λ j. not (place_allowed k a.c (ltb (j - a.i) a.used) (byte B j))) _ _ _
-        c.find-wrong.ensures.ran
+    c.find-wrong.ensures.ran
     (YieldsList-from_range a.i (a.i + a.n) a.n (search rules) (omega arith)) (λ x b q k. search (rules, tests)))

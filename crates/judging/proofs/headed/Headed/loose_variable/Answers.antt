@@ -29,4 +29,4 @@ returns c =
     let t = is_announced B (λ d. c.if-answers-eq0.false (is_records r c.answers.ensures ∙ d)) in
     c.loose_from.ensures
     ∙ ap (told 11) (sym (variables_from B t h.question h.atoms h.places (is_question r) (is_atoms r)
-        (known r).places_are))
+    (known r).places_are))

@@ -56,7 +56,7 @@ returns c =
     let used = c.used_places-used in
     let t = is_announced B (λ d. c.if-answers-eq0.false (is_records r c.answers.ensures ∙ d)) in
     let e = record_places B t i used.result (is_question r) (sym c.from.ensures ∙ c.if-from-ne-ANSWER.false)
-        used.ensures in
+    used.ensures in
     c.wrong_place.ensures
     ∙ ap (λ (w : ℕ). told 7 (wrong_place B (1 + used.result) (i + 1) 0 w)) (known r).places_are
     ∙ ap (told 7) (sym e)
