@@ -29,9 +29,9 @@ const EMPTY: Extent = Extent {
 // there is a set of relations for each.
 #[derive(Drop)]
 pub struct Members {
-    work: [u8; OUTPUT],
-    sets: [u64; ROOM],
-    filled: Extent,
+    pub work: [u8; OUTPUT],
+    pub sets: [u64; ROOM],
+    pub filled: Extent,
 }
 
 // Clauses see the members, and how many of them are explored.

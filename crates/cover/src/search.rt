@@ -233,7 +233,6 @@ pub fn covers_sound(first: &[u8; RECORD], second: &[u8]) -> bool
 pub fn covers_on(first: &[u8], second: &[u8; RECORD], map: &mut [u8; VARIABLES], k: usize) -> bool
     requires { SoundRecord stored first.now
         × SoundRecord stored second.now
-        × (length map.old ≡ 96)
         × (k < get_or second.now 0 0)
         × (1 ≤ get_or first.now 0 0) }
     ensures { Searched

@@ -84,7 +84,7 @@ fn after_covered(rule: &Rule<'_>, member: &[u8], members: &Members, choice: usiz
 
 impl Patience {
     // The patience that a rule begins with.
-    pub fn fresh(rule: usize) -> Self {
+    pub(crate) fn fresh(rule: usize) -> Self {
         Patience {
             rule,
             drops: FEW,

@@ -22,7 +22,7 @@ use covering::RECORD;
 use forming::in_form;
 use forms::{BOOK, to_new};
 use reading::{Reason, Refused};
-use records::{Held, Record};
+use records::Record;
 use writing::put_union;
 
 // The form of the book's question.
@@ -31,8 +31,7 @@ fn first_member(book: &[u8]) -> [u8; RECORD]
     ensures { result ≡ held_in stored record_room (form (joined (book_of book.now).question)) }
 {
     let question = book::question(book);
-    let mut first = Held::empty();
-    in_form(&Record { bytes: &question }, &mut first);
+    let first = in_form(&Record { bytes: &question });
     first.bytes
 }
 

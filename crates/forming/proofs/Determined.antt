@@ -6,7 +6,7 @@ use Rattle.forming.proofs.formed.put_atom.Reads as put-atom-reads
 use Rattle.forming.proofs.formed.put_on.Reads as put-on-reads
 
 pub in_form_determined : (κs : _) (a : _) (r s : _) (x y : _) → in-form-reads.Learnt κs a r x
-    → in-form-reads.Learnt κs a s y → x.1.0.now ≡ y.1.0.now
+    → in-form-reads.Learnt κs a s y → r ≡ s
 in_form_determined κs a r s x y p q = p ∙ sym q
 
 pub put_atom_determined : (κs : _) (a : _) (r s : _) (x y : _) → put-atom-reads.Learnt κs a r x

@@ -187,26 +187,27 @@ pub fn put_on(kept: &mut Held, table: &[u8; 96], from: &[u8], at: usize)
     put_atom(kept, &atom, 0);
 }
 
-// Puts the record, its variables numbered by first appearance, in the room of one that is lent.
+// Puts the record's atoms, its variables numbered by first appearance, in one that has no atom yet.
 fn put_renumbered(member: &Record<'_>, out: &mut Held)
+    requires { out.old ≡ [] }
     ensures { out.new ≡ renumber member.now }
 {
     let table = numbers_of(member);
-    *out = Held::empty();
     for k in 0..usize::from(member.bytes[0]) {
         put_on(out, &table, member.bytes, 1 + k * 7);
     }
 }
 
-// The form of the record, equal atoms dropped but for the first, then variables numbered: in the room of one that is
-// lent, so that it is not copied.
-pub fn in_form(member: &Record<'_>, out: &mut Held)
-    ensures { out.new ≡ form member.now }
+// The form of the record: equal atoms dropped but for the first, then variables numbered.
+pub fn in_form(member: &Record<'_>) -> Held
+    ensures { result ≡ form member.now }
 {
+    let mut out = Held::empty();
     if all_differ(member) {
-        put_renumbered(member, out);
-        return;
+        put_renumbered(member, &mut out);
+        return out;
     }
     let kept = drop_equal(member);
-    put_renumbered(&kept.lent(), out);
+    put_renumbered(&kept.lent(), &mut out);
+    out
 }

@@ -1,4 +1,4 @@
--- What only the contracts of this crate's functions are said with.
+-- What only the contracts of this crate's functions, and of the code above, are said with.
 pub mod Judged
 pub mod Forms
 pub mod Found

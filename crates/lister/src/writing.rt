@@ -65,7 +65,6 @@ pub fn put_rewriting(left: &Held, rule: &Rule<'_>, table: &[u8; 96], out: &mut [
         (rewriting_of (tabled (classes_of table.now)) left.now (move 48 (rule_of rule.now.book.now rule.now.parts)))) }
 {
     let whole = replaced(left, rule, table);
-    let mut formed = Held::empty();
-    in_form(&whole.lent(), &mut formed);
+    let formed = in_form(&whole.lent());
     out.copy_from_slice(&formed.bytes);
 }

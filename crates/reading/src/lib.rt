@@ -1,5 +1,5 @@
 // The definitions of the stored book and of its refusals, and their laws: specs/ and proofs/. The code is in `book`;
-// declared here are the header and the refusal that the definitions speak of.
+// declared here are the header that the definitions speak of, and a refusal with 01's number of its reason.
 #![tactic(auto)]
 
 ghost use Rattle.std.specs.Prelude.{◌≡◌};

@@ -5,9 +5,7 @@ ghost use Rattle.covering.specs.Term.{Question};
 ghost use Rattle.covering.specs.Record.{stored, question_of, SoundRecord};
 ghost use Rattle.covering.specs.Buffer.{held_in, record_room};
 ghost use Rattle.records.specs.Holding.{HeldRecord};
-ghost use Rattle.records.specs.Relations.{relations_of, are_in};
 
-use crate::copying::copy_record;
 use covering::RECORD;
 use std::marker::Model;
 
@@ -31,29 +29,6 @@ impl<'a> Record<'a> {
         ensures { result ≡ length self.now }
     {
         self.bytes[0]
-    }
-
-    // The set of its relations.
-    pub fn relations(&self) -> u64
-        ensures { result ≡ relations_of self.now }
-    {
-        crate::relations(self.bytes)
-    }
-
-    // Whether all its relations are in the set.
-    pub fn are_among(&self, set: u64) -> bool
-        ensures { result ≡ are_in set self.now }
-    {
-        crate::are_among(self.bytes, set)
-    }
-
-    // A copy of it.
-    pub fn held(&self) -> Held
-        ensures { result ≡ self.now }
-    {
-        Held {
-            bytes: copy_record(self.bytes),
-        }
     }
 }
 

@@ -40,7 +40,7 @@ fn replaced(table: &mut [u8; 96], v: u8, b: u8)
     requires { v < 128 }
     ensures { classes_of table.new ≡ map (point v (term_of b)) (classes_of table.old) }
 {
-    // A bound in the code, which an edit needs, and so no `iter_mut`.
+    // By its number, which the law of each entry speaks of; `iter_mut` is no plainer.
     for i in 0..96 {
         table[i] = put_for(table[i], v, b);
     }

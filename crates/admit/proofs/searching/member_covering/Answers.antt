@@ -34,7 +34,6 @@ covers_on-requires c =
     let here = passed_here _ _ _ _ c.members.invariant c.if-sets-i.false in (
       subst (SoundRecord stored) (sym (part_is c.args.work.now c.members.at)) here.sound,
       c.requires.1,
-      ap length c.loop-k.invariant.map,
       omega (arith, c.from-k-end.ensures),
       omega (arith, c.if-member-eq0.false),
     )

@@ -22,7 +22,7 @@ returns-then-first-second c =
     let a = c.args in
     let F = a.first.now in
     let S = a.second.now in
-    let is = question_at_lem stored F refl ∙ atoms_more stored F 1 (get_or F 0 0) (omega (arith, c.requires.4)) in
+    let is = question_at_lem stored F refl ∙ atoms_more stored F 1 (get_or F 0 0) (omega (arith, c.requires.3)) in
     searched_as _ _ _ _ _
     (on_candidate _ _ _ _ _
     ∙ ap (λ A. found_on A (question_of stored S) (part_of a.map.now) (atom_at stored S (1 + a.k * 7))) (sym is))
@@ -35,8 +35,8 @@ pub try_candidate-requires : goal.try_candidate-requires
 try_candidate-requires c =
     let count = copy_count _ _ c.requires.0 c.copy_record-held.ensures in (
       c.atoms.ensures.sound,
-      omega (arith, count, c.requires.4, c.atoms.ensures.long),
-      omega (arith, c.requires.3, c.requires.1.most, length-take {A = ℕ}, length-drop (1 + c.args.k * 7) c.args.second.now),
+      omega (arith, count, c.requires.3, c.atoms.ensures.long),
+      omega (arith, c.requires.2, c.requires.1.most, length-take {A = ℕ}, length-drop (1 + c.args.k * 7) c.args.second.now),
       omega (arith, c.requires.1.most),
     )
 
@@ -46,7 +46,7 @@ returns c =
     let S = a.second.now in
     let P = c.atoms.result.now in
     let count = copy_count _ _ c.requires.0 c.copy_record-held.ensures in
-    let some : 0 < length P = omega (arith, count, c.requires.4, c.atoms.ensures.long) in
+    let some : 0 < length P = omega (arith, count, c.requires.3, c.atoms.ensures.long) in
     let is =
     sym (rest_more P c.atoms.ensures.sound some)
     ∙ c.atoms.ensures.atoms

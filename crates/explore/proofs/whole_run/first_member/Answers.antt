@@ -18,5 +18,5 @@ returns c =
     c.first.invariant.rest
     ∙ ap (held_in stored record_room)
     (c.first.view_is
-    ∙ c.in_form.ensures
+    ∙ c.in_form-first.ensures
     ∙ ap form (ap (question_of stored) c.question-question.ensures ∙ stored_question _ (question_stored _ p.0 p.1)))

@@ -17,7 +17,7 @@ use Rattle.forming.proofs.Growing.{table_numbers, table_fits}
 use Rattle.forming.proofs.formed.put_renumbered.Goals as goal
 
 pub loop-k-init : goal.loop-k-init
-loop-k-init c = rw c.empty.ensures (
+loop-k-init c = rw c.requires (
   omega (arith, c.member.invariant.most),
   ([], refl, sym c.member.view_is ∙ question_left c.member.inside.bytes.now),
 )

@@ -12,4 +12,4 @@ returns c =
     c.copy_from_slice.ensures.after
     ∙ c.formed.invariant.rest
     ∙ ap (held_in stored record_room)
-    (c.formed.view_is ∙ c.in_form.ensures ∙ ap form (c.lent.ensures ∙ c.replaced-whole.ensures))
+    (c.formed.view_is ∙ c.in_form-formed.ensures ∙ ap form (c.lent.ensures ∙ c.replaced-whole.ensures))
