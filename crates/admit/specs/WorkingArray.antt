@@ -82,9 +82,17 @@ pub record Stands (W : List ℕ) (U : List Question) : Type 0 where
   pub standing : Standing W first_at (length U)
   pub are : held_from W first_at (length U) ≡ U
 
--- What becomes of the rewriting P, and of the union s, by these limits: t is the union afterwards. Where the run is refused
--- it does not count any more.
-abbrev pub FateIs : Limits → State → Question → State → Result Fate Reason → Type 0
-FateIs lim s P t (Ok Dropped) = (admit covers lim s P ≡ dropped) × (t ≡ s)
-FateIs lim s P t (Ok Appended) = admit covers lim s P ≡ admitted t
-FateIs lim s P t (Err r) = (w : Why) × (admit covers lim s P ≡ stopped w) × (number_of r ≡ refusal_number w)
+-- What becomes of the rewriting P, and of the working array W, filled to e, by these limits: X, filled to f, is the array
+-- afterwards. Where the run is refused the members do not count any more.
+abbrev pub FateIs : Limits → List ℕ → Extent → Question → List ℕ → Extent → Result Fate Reason → Type 0
+FateIs lim W e P X f (Ok Dropped) = (admit covers lim (state_in W e) P ≡ dropped) × (X ≡ W) × (f ≡ e)
+FateIs lim W e P X f (Ok Appended) = (admit covers lim (state_in W e) P ≡ admitted (state_in X f)) × Working X f
+FateIs lim W e P X f (Err r) =
+    (w : Why) × (admit covers lim (state_in W e) P ≡ stopped w) × (number_of r ≡ refusal_number w)
+
+-- The same of the union s that such an array holds: t is the union afterwards. Where the run is refused it does not count
+-- any more.
+abbrev pub UnionFateIs : Limits → State → Question → State → Result Fate Reason → Type 0
+UnionFateIs lim s P t (Ok Dropped) = (admit covers lim s P ≡ dropped) × (t ≡ s)
+UnionFateIs lim s P t (Ok Appended) = admit covers lim s P ≡ admitted t
+UnionFateIs lim s P t (Err r) = (w : Why) × (admit covers lim s P ≡ stopped w) × (number_of r ≡ refusal_number w)

@@ -3,12 +3,14 @@
 // `exploration`.
 #![tactic(auto)]
 
+mod admitting;
 mod members;
 mod removing;
 mod searching;
 mod sets;
 mod working;
 
+pub use admitting::admit;
 pub use members::Members;
 pub use working::append;
 

@@ -3,9 +3,9 @@ ghost use Rattle.std.specs.Prelude.{◌≡◌, ◌+◌, ◌≤◌, ◌<◌, leng
 ghost use Rattle.covering.specs.Search.{covers};
 ghost use Rattle.covering.specs.Record.{stored, question_of, SoundRecord};
 ghost use Rattle.exploration.specs.Run.{limits_for, covered, taken_up};
-ghost use Rattle.admit.specs.WorkingArray.{alone, Stands, FateIs};
+ghost use Rattle.admit.specs.WorkingArray.{alone, Stands, UnionFateIs};
 
-use super::removing::remove_covered;
+use super::admitting::admit;
 use super::searching::member_covering;
 use super::sets::of_one;
 use super::working::append;
@@ -14,9 +14,6 @@ use cover::VARIABLES;
 use covering::RECORD;
 use reading::Reason;
 use std::marker::Model;
-
-// "More than 8 atoms".
-const ATOMS: u8 = 8;
 
 // Before the first member.
 const EMPTY: Extent = Extent {
@@ -111,36 +108,19 @@ impl Members {
     // records and 8 atoms, removes what it covers, refuses where there is no room, or appends it, and its set of relations.
     pub fn admit(&mut self, rewriting: &[u8; RECORD], answers: u8) -> Result<Fate, Reason>
         requires { SoundRecord stored rewriting.now × (answers ≤ 1) }
-        ensures { FateIs
+        ensures { UnionFateIs
             (limits_for answers)
             self.old
             (question_of stored rewriting.now)
             self.new
             result }
     {
-        let there = records::relations(rewriting);
-        let mut map = [255u8; VARIABLES];
-        let before = self.filled;
-        let covering = member_covering(
-            &self.work,
-            &self.sets[..before.count],
+        admit(
+            &mut self.work,
+            &mut self.sets,
+            &mut self.filled,
             rewriting,
-            there,
-            &mut map,
-        );
-        if covering.is_some() {
-            return Ok(Fate::Dropped);
-        }
-        if ATOMS + answers < rewriting[0] {
-            return Err(Reason::TooLong);
-        }
-        self.filled = remove_covered(&mut self.work, &mut self.sets, before, rewriting, there);
-        if ROOM <= self.filled.count {
-            return Err(Reason::NoRoom);
-        }
-        self.filled.len = append(&mut self.work, self.filled.len, rewriting);
-        self.sets[self.filled.count] = there;
-        self.filled.count += 1;
-        Ok(Fate::Appended)
+            answers,
+        )
     }
 }

@@ -15,7 +15,7 @@ use Rattle.admit.specs.declared.Fate.TheVariants.{Dropped, Appended}
 use Rattle.std.specs.Prelude.{Ok, Err}
 use Rattle.reading.specs.declared.Reason.{Reason}
 use Rattle.exploration.specs.Run.{State, Limits, through, all_rewritings}
-use Rattle.admit.specs.WorkingArray.{FateIs}
+use Rattle.admit.specs.WorkingArray.{UnionFateIs}
 use Rattle.explore.specs.Exploring.{ExploredIs}
 use Rattle.explore.specs.Skipping.{GoesOn}
 use Rattle.exploration.proofs.Admits.{through_none}
@@ -66,7 +66,7 @@ module _ (lim : Limits) (rules : List Rule) (M : Question) (s : State) where
           o.among N (subst (λ (l : List Question). N ∈ l) (sym g.coming_is) (Memᴰ.tail m))
 
       -- it was dropped
-      pub onward_dropped : (v : State) → FateIs lim u g.rewriting v (Ok Dropped)
+      pub onward_dropped : (v : State) → UnionFateIs lim u g.rewriting v (Ok Dropped)
           → Onward lim rules M s v t.rule (t.choice + 1)
       onward_dropped v h =
           subst (λ (x : State). Onward lim rules M s x t.rule (t.choice + 1)) (sym h.1)
@@ -95,11 +95,12 @@ module _ (lim : Limits) (rules : List Rule) (M : Question) (s : State) where
       fewer_passed {m} l =
           omega (arith, fewer, coming_fewer M (t.choice + 1) m (drop t.rule rules) (omega arith))
 
-      pub onward_refused : (v : State) (r : Reason) → FateIs lim u g.rewriting v (Err r) → ExploredIs lim rules M s v (Err r)
+      pub onward_refused : (v : State) (r : Reason) → UnionFateIs lim u g.rewriting v (Err r)
+          → ExploredIs lim rules M s v (Err r)
       onward_refused v r h = (h.0, outcome_is ∙ turn_refused covers lim M P Ps u h.1, h.2)
 
       -- it was appended: the member is removed, or its exploration goes on
-      module _ (v : State) (h : FateIs lim u g.rewriting v (Ok Appended)) where
+      module _ (v : State) (h : UnionFateIs lim u g.rewriting v (Ok Appended)) where
         pub onward_stopped : covers g.rewriting M ≡ true → ExploredIs lim rules M s v (Ok tt)
         onward_stopped c = outcome_is ∙ turn_stopped covers lim M P Ps u h c
 

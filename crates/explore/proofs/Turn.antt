@@ -20,7 +20,7 @@ use Rattle.unification.proofs.Following.{listed_below}
 use Rattle.lister.specs.Listing.{QuestionIn}
 use Rattle.lister.proofs.FromBook.{member_in}
 use Rattle.admit.specs.declared.Fate.{Fate}
-use Rattle.admit.specs.WorkingArray.{FateIs}
+use Rattle.admit.specs.WorkingArray.{UnionFateIs}
 use Rattle.exploration.specs.Run.{State, apart, all_rewritings, limits_for}
 use Rattle.exploration.specs.Refusals.{answers_of, limits_of}
 use Rattle.explore.specs.declared.Taken.{Taken}
@@ -60,11 +60,11 @@ module _ {B R : List ℕ} (s : SoundBook B) (m : MemberIn B R) where
 
       -- what became of it
       pub taken_fate : {a : ℕ} → a ≡ answers_of B → (v : State) (r q : Result Fate Reason) → r ≡ q
-          → FateIs (limits_for a) u (question_of stored out) v r → FateIs (limits_of B) u g.rewriting v q
+          → UnionFateIs (limits_for a) u (question_of stored out) v r → UnionFateIs (limits_of B) u g.rewriting v q
       taken_fate is v r q e h =
-          subst (λ (P : Question). FateIs (limits_of B) u P v q) question
-          (subst (λ (a : ℕ). FateIs (limits_for a) u (question_of stored out) v q) is
-          (subst (FateIs _ u (question_of stored out) v) e h))
+          subst (λ (P : Question). UnionFateIs (limits_of B) u P v q) question
+          (subst (λ (a : ℕ). UnionFateIs (limits_for a) u (question_of stored out) v q) is
+          (subst (UnionFateIs _ u (question_of stored out) v) e h))
 
       -- its rule, and its choice
       here : (t.rule < rules_of B) × (g.here ≡ rule_at B (rule_start B t.rule))

@@ -1,8 +1,7 @@
 -- `admit::searching::member_covering` meets its contract: a member is passed where its relations are not all there, or where
 -- no candidate of it serves; else the search ends.
 use native.Mathlib.Omega.{arith}
-use mathlib.Core.Path.{refl, sym, ap, ◌∙◌, subst}
-use lib.ListN.{length}
+use mathlib.Core.Path.{refl, sym, ◌∙◌, subst}
 use Rattle.covering.specs.Record.{stored, SoundRecord}
 use Rattle.covering.proofs.Slices.{part_is}
 use Rattle.records.proofs.Among.{not_part}
