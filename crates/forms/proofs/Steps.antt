@@ -4,13 +4,21 @@ use mathlib.Core.List.{List, [], ◌∷◌, ◌++◌}
 use Prim.Native.Nat.{ℕ, zero, suc, ◌+◌, ◌≤◌, ◌<◌}
 use native.Mathlib.Numerals.{add-one}
 use native.Mathlib.Omega.{arith}
-use lib.ListN.{length, get_or, set, take, length-set}
-use lib.Seq.{take-suc}
+use lib.ListN.{length, get_or, set, take, drop, length-drop, length-set}
+use lib.Seq.{take-suc, get_or-drop}
 use Rattle.covering.specs.Lists.{gather}
 use Rattle.covering.specs.Put.{Puts}
 use Rattle.covering.proofs.Lists.{gather_append}
 use Rattle.covering.proofs.Putting.{put_one, then}
 use Rattle.reading.specs.Word.{word_bytes}
+
+-- one byte more of those from i on
+pub byte_more : (B : List ℕ) (i k : ℕ) → i + k < length B
+    → take (k + 1) (drop i B) ≡ take k (drop i B) ++ get_or B (i + k) 0 ∷ []
+byte_more B i k l =
+    ap (λ (n : ℕ). take n (drop i B)) (add-one k)
+    ∙ take-suc (drop i B) k 0 (omega (arith, length-drop i B))
+    ∙ ap (λ (b : ℕ). take k (drop i B) ++ b ∷ []) (get_or-drop i B k 0)
 
 -- one word more
 pub word_more : (ws : List ℕ) (k : ℕ) → k < length ws

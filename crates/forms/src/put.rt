@@ -15,7 +15,8 @@ use judging::Form;
 use records::copy_atoms;
 use writing::put_word;
 
-// Puts n bytes of from, the first at i, and answers where they end.
+// Puts n bytes of from, the first at i, and answers where they end. Byte by byte: a copy of parts, of which the compiler
+// doesn't know that they lie apart, would have programs in C bring a function more.
 fn put_bytes(from: &[u8], i: usize, n: usize, out: &mut [u8], at: usize) -> usize
     requires { (i + n ≤ length from.now) × (at + n ≤ length out.old) }
     ensures { Puts
@@ -25,7 +26,9 @@ fn put_bytes(from: &[u8], i: usize, n: usize, out: &mut [u8], at: usize) -> usiz
         result
         out.new }
 {
-    out[at..at + n].copy_from_slice(&from[i..i + n]);
+    for k in 0..n {
+        out[at + k] = from[i + k];
+    }
     at + n
 }
 

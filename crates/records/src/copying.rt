@@ -6,15 +6,26 @@ ghost use Rattle.covering.specs.Term.{Atom};
 ghost use Rattle.covering.specs.Asking.{joined};
 ghost use Rattle.covering.specs.Record.{desk, holding, stored, atom_at, atoms_at, is_atom, atom_bytes, asking_of, is_desk_record};
 ghost use Rattle.covering.specs.Record.{question_of, SoundRecord};
-ghost use Rattle.covering.specs.Buffer.{AtomsIn, held_in, record_room};
+ghost use Rattle.covering.specs.Buffer.{AtomsIn, held_in, record_room, place_or};
 ghost use Rattle.covering.specs.Put.{Puts};
 
 use crate::PLACES;
 use crate::record::{answers, width};
 use covering::RECORD;
 
+// What stands in place j of the w from i on, 255 where there are not so many.
+fn place_or_none(from: &[u8], i: usize, w: usize, j: usize) -> u8
+    requires { i + w ≤ length from.now }
+    ensures { result ≡ place_or from.now i w j }
+{
+    if j < w {
+        return from[i + j];
+    }
+    255
+}
+
 // Copies the atom of from at i, which has w places, to `at`, where it gets v, and answers where it ends. The relation's
-// byte goes as a place does.
+// byte goes as a place does. They are few bytes: to copy and to fill parts of the buffer takes longer.
 fn copy_atom(from: &[u8], i: usize, w: usize, to: &mut [u8], at: usize, v: usize) -> usize
     requires { T (is_atom (holding w) from.now i)
         × (i + 1 + w ≤ length from.now)
@@ -27,9 +38,9 @@ fn copy_atom(from: &[u8], i: usize, w: usize, to: &mut [u8], at: usize, v: usize
         result
         to.new }
 {
-    let used = 1 + w.min(v);
-    to[at..at + used].copy_from_slice(&from[i..i + used]);
-    to[at + used..at + 1 + v].fill(255);
+    for j in 0..1 + v {
+        to[at + j] = place_or_none(from, i, 1 + w, j);
+    }
     at + 1 + v
 }
 
