@@ -89,7 +89,7 @@ impl Display for Term {
     }
 }
 
-// An atom's bytes: its relation, and its terms with commas between.
+// An atom's bytes: a space, its relation, and its terms with commas between.
 #[derive(Clone, Copy)]
 struct Atom<'a>(&'a [u8]);
 
@@ -98,7 +98,7 @@ impl<'a> Display for Atom<'a> {
         let [relation, places @ ..] = self.0 else {
             return Ok(());
         };
-        write!(f, "r{relation}(")?;
+        write!(f, " r{relation}(")?;
         for (w, b) in places.iter().enumerate() {
             if *b != 255 {
                 if 0 < w {
@@ -117,7 +117,7 @@ fn show<W: Write>(out: &mut W, choice: usize, record: &[u8; RECORD]) -> io::Resu
     let n = usize::from(record[0]);
     for atom in record[1..].chunks_exact(7).take(n) {
         let shown = Atom(atom);
-        write!(out, " {shown}")?;
+        write!(out, "{shown}")?;
     }
     out.write_all(b"\n")
 }
