@@ -19,7 +19,7 @@ use super::rules::Rules;
 use super::taking_up::oldest;
 use admit::{Members, OUTPUT};
 use covering::RECORD;
-use forming::in_form;
+use forming::held_form;
 use forms::{BOOK, to_new};
 use reading::{Reason, Refused};
 use records::Record;
@@ -31,7 +31,7 @@ fn first_member(book: &[u8]) -> [u8; RECORD]
     ensures { result ≡ held_in stored record_room (form (joined (book_of book.now).question)) }
 {
     let question = book::question(book);
-    let first = in_form(&Record { bytes: &question });
+    let first = held_form(&Record { bytes: &question });
     first.bytes
 }
 

@@ -5,10 +5,11 @@ ghost use Rattle.covering.specs.Term.{on_term, on_atom, eq_atom, terms};
 ghost use Rattle.covering.specs.Form.{dedup, firsts, renumber, form};
 ghost use Rattle.covering.specs.Record.{stored, term_of, byte_of, atom_at, atoms_at, question_of, atom_bytes, AtomFits, SoundRecord};
 ghost use Rattle.covering.specs.Buffer.{held_in, AtomIn, AtomsIn, RoomLeft, record_room};
+ghost use Rattle.records.specs.Holding.{HeldRecord};
 ghost use Rattle.forming.specs.Building.{has, added, seen, all_seen, new_number, sub_of, NumberTable};
 
 use covering::RECORD;
-use records::{Held, Record};
+use records::{Held, Record, no_atoms};
 
 // Whether the atom of first at i is the atom of second at k: the same seven bytes.
 fn same_atom(first: &[u8], second: &[u8], i: usize, k: usize) -> bool
@@ -33,15 +34,7 @@ fn has_atom(kept: &[u8], i: usize, n: usize, from: &[u8], at: usize) -> bool
 }
 
 // Puts the atom of from at `at` after the record's own atoms. From may be any bytes that have an atom there.
-pub fn put_atom(kept: &mut Held, from: &[u8], at: usize)
-    requires { (length kept.old < 12) × AtomIn stored from.now at }
-    ensures { kept.new ≡ kept.old ++ atom_at stored from.now at ∷ [] }
-{
-    put_bytes(&mut kept.bytes, from, at);
-}
-
-// The same in bytes.
-fn put_bytes(kept: &mut [u8; RECORD], from: &[u8], at: usize)
+pub fn put_atom(kept: &mut [u8], from: &[u8], at: usize)
     requires { RoomLeft stored record_room kept.old × AtomIn stored from.now at }
     ensures { kept.new
         ≡ held_in
@@ -55,6 +48,14 @@ fn put_bytes(kept: &mut [u8; RECORD], from: &[u8], at: usize)
     kept[start..start + 7].copy_from_slice(&from[at..at + 7]);
 }
 
+// The same in a record of its own.
+pub fn add_atom(kept: &mut Held, from: &[u8], at: usize)
+    requires { (length kept.old < 12) × AtomIn stored from.now at }
+    ensures { kept.new ≡ kept.old ++ atom_at stored from.now at ∷ [] }
+{
+    put_atom(&mut kept.bytes, from, at);
+}
+
 // The same where the atom is not among the record's own; else the record stays as it is.
 fn put_new(kept: &mut Held, from: &[u8], at: usize)
     requires { (length kept.old < 12) × AtomIn stored from.now at }
@@ -62,7 +63,7 @@ fn put_new(kept: &mut Held, from: &[u8], at: usize)
 {
     let n = usize::from(kept.bytes[0]);
     if !has_atom(&kept.bytes, 1, n, from, at) {
-        put_atom(kept, from, at);
+        add_atom(kept, from, at);
     }
 }
 
@@ -152,8 +153,8 @@ fn numbers_of(member: &Record<'_>) -> [u8; 96]
 }
 
 // The byte t with a variable replaced by what the table has for it: a constant stays, and so does 255.
-fn replaced(table: &[u8; 96], t: u8) -> u8
-    requires { 96 ≤ t → 128 ≤ t }
+fn replaced(table: &[u8], t: u8) -> u8
+    requires { (length table.now ≡ 96) × (96 ≤ t → 128 ≤ t) }
     ensures { result ≡ byte_of (on_term (sub_of table.now) (term_of t)) }
 {
     if 96 <= t {
@@ -163,8 +164,8 @@ fn replaced(table: &[u8; 96], t: u8) -> u8
 }
 
 // The bytes of the atom of from at `at`, each variable replaced by the term whose byte the table has for it.
-fn atom_on(table: &[u8; 96], from: &[u8], at: usize) -> [u8; 7]
-    requires { AtomIn stored from.now at }
+fn atom_on(table: &[u8], from: &[u8], at: usize) -> [u8; 7]
+    requires { (length table.now ≡ 96) × AtomIn stored from.now at }
     ensures { result
         ≡ atom_bytes stored (on_atom (sub_of table.now) (atom_at stored from.now at)) }
 {
@@ -177,20 +178,36 @@ fn atom_on(table: &[u8; 96], from: &[u8], at: usize) -> [u8; 7]
 }
 
 // Puts that atom, its variables so replaced, after the record's own.
-pub fn put_on(kept: &mut Held, table: &[u8; 96], from: &[u8], at: usize)
-    requires { (length kept.old < 12)
+pub fn put_on(kept: &mut [u8], table: &[u8], from: &[u8], at: usize)
+    requires { RoomLeft stored record_room kept.old
+        × (length table.now ≡ 96)
         × AtomIn stored from.now at
         × AtomFits stored (on_atom (sub_of table.now) (atom_at stored from.now at)) }
-    ensures { kept.new ≡ kept.old ++ on_atom (sub_of table.now) (atom_at stored from.now at) ∷ [] }
+    ensures { kept.new
+        ≡ held_in
+        stored
+        record_room
+        (question_of stored kept.old
+        ++ on_atom (sub_of table.now) (atom_at stored from.now at) ∷ []) }
 {
     let atom = atom_on(table, from, at);
     put_atom(kept, &atom, 0);
 }
 
-// Puts the record's atoms, its variables numbered by first appearance, in one that has no atom yet.
-fn put_renumbered(member: &Record<'_>, out: &mut Held)
-    requires { out.old ≡ [] }
-    ensures { out.new ≡ renumber member.now }
+// The same in a record of its own.
+pub fn add_on(kept: &mut Held, table: &[u8; 96], from: &[u8], at: usize)
+    requires { (length kept.old < 12)
+        × AtomIn stored from.now at
+        × AtomFits stored (on_atom (sub_of table.now) (atom_at stored from.now at)) }
+    ensures { kept.new ≡ kept.old ++ on_atom (sub_of table.now) (atom_at stored from.now at) ∷ [] }
+{
+    put_on(&mut kept.bytes, table, from, at);
+}
+
+// Puts the record's atoms, its variables numbered by first appearance, in the bytes of one that has no atom yet.
+fn put_renumbered(member: &Record<'_>, out: &mut [u8; RECORD])
+    requires { out.old ≡ held_in stored record_room [] }
+    ensures { HeldRecord out.new × (question_of stored out.new ≡ renumber member.now) }
 {
     let table = numbers_of(member);
     for k in 0..usize::from(member.bytes[0]) {
@@ -198,16 +215,33 @@ fn put_renumbered(member: &Record<'_>, out: &mut Held)
     }
 }
 
-// The form of the record: equal atoms dropped but for the first, then variables numbered.
-pub fn in_form(member: &Record<'_>) -> Held
+// Puts the form of the record there: equal atoms dropped but for the first, then variables numbered.
+fn put_form(member: &Record<'_>, out: &mut [u8; RECORD])
+    requires { out.old ≡ held_in stored record_room [] }
+    ensures { HeldRecord out.new × (question_of stored out.new ≡ form member.now) }
+{
+    if all_differ(member) {
+        put_renumbered(member, out);
+        return;
+    }
+    let kept = drop_equal(member);
+    put_renumbered(&kept.lent(), out);
+}
+
+// Writes the form of the record to the room lent.
+pub fn in_form(member: &[u8; RECORD], out: &mut [u8; RECORD])
+    requires { SoundRecord stored member.now }
+    ensures { out.new ≡ held_in stored record_room (form (question_of stored member.now)) }
+{
+    *out = no_atoms();
+    put_form(&Record { bytes: member }, out);
+}
+
+// The form of the record, in one of its own.
+pub fn held_form(member: &Record<'_>) -> Held
     ensures { result ≡ form member.now }
 {
     let mut out = Held::empty();
-    if all_differ(member) {
-        put_renumbered(member, &mut out);
-        return out;
-    }
-    let kept = drop_equal(member);
-    put_renumbered(&kept.lent(), &mut out);
+    put_form(member, &mut out.bytes);
     out
 }

@@ -5,7 +5,7 @@ ghost use Rattle.lister.specs.Leaving.{left_by};
 ghost use Rattle.lister.specs.Listing.{QuestionIn};
 
 use covering::RECORD;
-use forming::{Held, put_atom};
+use forming::{Held, add_atom};
 
 // Puts those of the first n atoms that are left after each other in a record with no atom yet, which is lent.
 pub fn put_left(left: &mut Held, question: &[u8; RECORD], n: usize, sent: usize)
@@ -21,5 +21,5 @@ pub fn put_left(left: &mut Held, question: &[u8; RECORD], n: usize, sent: usize)
     if sent % 2 == 1 {
         return;
     }
-    put_atom(left, question, 1 + (n - 1) * 7);
+    add_atom(left, question, 1 + (n - 1) * 7);
 }

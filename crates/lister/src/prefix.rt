@@ -10,7 +10,7 @@ ghost use Rattle.lister.specs.FirstDigits.{unmet, PrefixIs, DigitFor, DigitPut};
 
 use crate::powers::choice_count;
 use crate::writing::replaced;
-use forming::{Held, put_atom};
+use forming::{Held, add_atom};
 use unify::{Rule, all_apart, join_atoms};
 
 // Gives the question atom at i its digit: leaves it, or puts it on that head atom in the classes. Whether it can be put
@@ -37,7 +37,7 @@ fn put_digit(
         table.new }
 {
     if d == 0 {
-        put_atom(left, question, i);
+        add_atom(left, question, i);
         return true;
     }
     join_atoms(question, rule.book, i, rule.parts.head + (d - 1) * 7, table)
@@ -65,7 +65,7 @@ fn leave_unmet(question: &[u8], rule: &Rule<'_>, p: usize, left: &mut Held)
         let at = 1 + j * 7;
         let unmet = is_unmet(rule, question[at]);
         if unmet {
-            put_atom(left, question, at);
+            add_atom(left, question, at);
         }
     }
 }

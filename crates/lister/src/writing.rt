@@ -11,7 +11,7 @@ ghost use Rattle.unify.specs.InBytes.{in_book, rule_of, classes_of};
 ghost use Rattle.lister.specs.Listing.{RuleIn, LeftIn, ClassesFit, UpperHalf};
 
 use covering::RECORD;
-use forming::{Held, in_form, put_on};
+use forming::{Held, add_on, in_form};
 use unify::Rule;
 
 // What stands for the rule's variables: the upper half of the classes, moved down by 48.
@@ -31,7 +31,7 @@ fn put_all(kept: &mut Held, table: &[u8; 96], from: &[u8], i: usize, n: usize)
     ensures { kept.new ≡ kept.old ++ on_question (sub_of table.now) (atoms_at stored from.now i n) }
 {
     for k in 0..n {
-        put_on(kept, table, from, i + k * 7);
+        add_on(kept, table, from, i + k * 7);
     }
 }
 
@@ -65,6 +65,5 @@ pub fn put_rewriting(left: &Held, rule: &Rule<'_>, table: &[u8; 96], out: &mut [
         (rewriting_of (tabled (classes_of table.now)) left.now (move 48 (rule_of rule.now.book.now rule.now.parts)))) }
 {
     let whole = replaced(left, rule, table);
-    let formed = in_form(&whole.lent());
-    out.copy_from_slice(&formed.bytes);
+    in_form(&whole.bytes, out);
 }

@@ -46,8 +46,8 @@ impl Model for Held {
     ghost invariant = { λ r. HeldRecord r.bytes };
 }
 
-// The bytes of a record with no atom.
-fn no_atoms() -> [u8; RECORD]
+// The bytes of a record with no atom yet.
+pub fn no_atoms() -> [u8; RECORD]
     ensures { result ≡ held_in stored record_room [] }
 {
     let mut kept = [255u8; RECORD];

@@ -10,7 +10,7 @@ mod sets;
 mod standing;
 
 pub use copying::{copy_atoms, copy_record, widened};
-pub use held::{Held, Record};
+pub use held::{Held, Record, no_atoms};
 pub use record::{answers, is_record, width};
 pub use sets::{are_among, is_part, relations, relations_at};
 pub use standing::stands_in;

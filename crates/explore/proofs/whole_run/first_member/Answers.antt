@@ -7,8 +7,8 @@ use Rattle.reading.proofs.Fits.{question_stored}
 use Rattle.covering.proofs.Padded.{stored_sound, stored_question}
 use Rattle.explore.proofs.whole_run.first_member.Goals as goal
 
-pub invariant_of-in_form : goal.invariant_of-in_form
-invariant_of-in_form c =
+pub invariant_of-held_form : goal.invariant_of-held_form
+invariant_of-held_form c =
     let p = c.requires in
     subst (SoundRecord stored) (sym c.question-question.ensures) (stored_sound _ (question_stored _ p.0 p.1))
 
@@ -18,5 +18,5 @@ returns c =
     c.first.invariant.rest
     ∙ ap (held_in stored record_room)
     (c.first.view_is
-    ∙ c.in_form-first.ensures
+    ∙ c.held_form-first.ensures
     ∙ ap form (ap (question_of stored) c.question-question.ensures ∙ stored_question _ (question_stored _ p.0 p.1)))

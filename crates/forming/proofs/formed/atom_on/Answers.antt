@@ -18,7 +18,7 @@ loop-j-init c =
     (refl, below_more _ 0 (λ m h. absurd (omega arith)) (sym (atom_on_relation stored stored_apart _ _ _)))
 
 pub replaced-requires : goal.replaced-requires
-replaced-requires c = place_byte _ _ c.loop-j.j c.requires.sound (omega arith) (omega arith)
+replaced-requires c = (c.requires.0, place_byte _ _ c.loop-j.j c.requires.1.sound (omega arith) (omega arith))
 
 pub loop-j-preserved : goal.loop-j-preserved
 loop-j-preserved c =
@@ -27,7 +27,7 @@ loop-j-preserved c =
       simp length-set c.loop-j.invariant.0,
       set_agrees c.loop-j.atom (atom_bytes stored atom) c.loop-j.j _ (omega arith) c.loop-j.invariant.1
           (c.replaced.ensures
-          ∙ sym (atom_on_place stored stored_apart _ _ _ c.loop-j.j c.requires.sound (omega arith) (omega arith))),
+          ∙ sym (atom_on_place stored stored_apart _ _ _ c.loop-j.j c.requires.1.sound (omega arith) (omega arith))),
     )
 
 pub returns : goal.returns

@@ -1,12 +1,8 @@
--- `forming::formed::in_form` meets its contract: where no two atoms are equal none is dropped.
-use mathlib.Core.Path.{ap, sym, ◌∙◌}
-use Rattle.covering.specs.Form.{renumber, form}
+-- `forming::formed::in_form` meets its contract: the bytes of a record are those that hold its question.
+use mathlib.Core.Path.{ap, ◌∙◌}
+use Rattle.covering.specs.Record.{stored}
+use Rattle.covering.specs.Buffer.{held_in, record_room}
 use Rattle.forming.proofs.formed.in_form.Goals as goal
 
-pub returns-then-all_differ : goal.returns-then-all_differ
-unfolding form
-returns-then-all_differ c = c.put_renumbered.ensures ∙ ap renumber (sym (c.all_differ.ensures c.if-all_differ.true))
-
 pub returns : goal.returns
-unfolding form
-returns c = c.put_renumbered-2.ensures ∙ ap renumber (c.lent.ensures ∙ c.drop_equal-kept.ensures)
+returns c = let p = c.put_form.ensures in p.0.rest ∙ ap (held_in stored record_room) p.1

@@ -9,7 +9,7 @@ pub returns-then-not-has_atom : goal.returns-then-not-has_atom
 unfolding question_of
 returns-then-not-has_atom c =
     let told = rw (c.from-n.ensures, c.kept.view_is) at c.has_atom.ensures in
-    c.put_atom.ensures ∙ sym (added_new eq_atom _ _ (sym told ∙ c.if-not-has_atom.true))
+    c.add_atom.ensures ∙ sym (added_new eq_atom _ _ (sym told ∙ c.if-not-has_atom.true))
 
 pub returns-else-not-has_atom : goal.returns-else-not-has_atom
 unfolding question_of

@@ -6,7 +6,7 @@ use Rattle.forming.proofs.AtomBytes.{variable_on, constant_on}
 use Rattle.forming.proofs.formed.replaced.Goals as goal
 
 pub returns-then-t-ge96 : goal.returns-then-t-ge96
-returns-then-t-ge96 c = sym (constant_on (sub_of c.args.table.now) c.args.t (c.requires c.if-t-ge96.true))
+returns-then-t-ge96 c = sym (constant_on (sub_of c.args.table.now) c.args.t (c.requires.1 c.if-t-ge96.true))
 
 pub returns : goal.returns
 returns c = rw c.from.ensures (sym (variable_on c.args.table.now c.args.t (omega (arith, c.if-t-ge96.false))))

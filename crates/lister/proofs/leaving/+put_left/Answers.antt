@@ -24,8 +24,8 @@ overflow_mul-n t c = omega (arith, c.requires.2, c.requires.1.few)
 pub overflow_add-n : goal.overflow_add-n
 overflow_add-n t c = omega (arith, c.requires.2, c.requires.1.few)
 
-pub put_atom-requires : goal.put_atom-requires
-put_atom-requires t c =
+pub add_atom-requires : goal.add_atom-requires
+add_atom-requires t c =
     let a = c.args in
     let r = room_for a.question.now c.requires.1 (a.n - 1) (a.sent / 2) (omega (arith, c.requires.2)) in
     (subst (λ A. length A < 12) (sym c.put_left.ensures) r.0, r.1)
@@ -33,6 +33,6 @@ put_atom-requires t c =
 pub returns : goal.returns
 returns t c =
     let a = c.args in
-    c.put_atom.ensures
+    c.add_atom.ensures
     ∙ ap (with_atom a.question.now (a.n - 1)) c.put_left.ensures
     ∙ sym (last_left a.question.now a.n a.sent (omega arith) c.if-sent-eq1.false)

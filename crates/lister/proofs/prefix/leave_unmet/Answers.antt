@@ -21,8 +21,8 @@ overflow_add-at c = omega (arith, c.from-n.ensures, c.requires.0.few)
 pub bounds-question-at : goal.bounds-question-at
 bounds-question-at c = omega (arith, c.from-n.ensures, c.requires.0.atoms.fits)
 
-pub put_atom-requires : goal.put_atom-requires
-put_atom-requires c = (
+pub add_atom-requires : goal.add_atom-requires
+add_atom-requires c = (
   omega (arith, c.from-n.ensures, c.loop-j.invariant.few, c.requires.0.few),
   atom_in c.requires.0 (omega (arith, c.from-n.ensures)),
 )
@@ -34,7 +34,7 @@ loop-j-preserved c =
     elim c.if-unmet.branch [
       | then-unmet w ↦
           subst (Leaving _ _ _ _) (sym w.left-is)
-          (leaving_more l (omega (arith, c.from-n.ensures)) (sym u ∙ w.if-unmet.true) w.put_atom.ensures)
+          (leaving_more l (omega (arith, c.from-n.ensures)) (sym u ∙ w.if-unmet.true) w.add_atom.ensures)
       | else-unmet w ↦
           subst (Leaving _ _ _ _) (sym w.left-is)
           (leaving_same l (omega (arith, c.from-n.ensures)) (sym u ∙ w.if-unmet.false))

@@ -7,11 +7,11 @@ use Rattle.lister.proofs.Asked.{head_sound, room_left}
 use Rattle.lister.proofs.OneDigit.{digit_tries, put_left, put_sent}
 use Rattle.lister.proofs.prefix.put_digit.Goals as goal
 
-pub put_atom-requires : goal.put_atom-requires
-put_atom-requires c = (omega (arith, c.requires.few), (room_left (digit_tries c.requires)).1)
+pub add_atom-requires : goal.add_atom-requires
+add_atom-requires c = (omega (arith, c.requires.few), (room_left (digit_tries c.requires)).1)
 
 pub returns-then-d-eq0 : goal.returns-then-d-eq0
-returns-then-d-eq0 c = put_left c.requires c.if-d-eq0.true c.put_atom.ensures
+returns-then-d-eq0 c = put_left c.requires c.if-d-eq0.true c.add_atom.ensures
 
 pub join_atoms-requires : goal.join_atoms-requires
 join_atoms-requires c =

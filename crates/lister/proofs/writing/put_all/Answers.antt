@@ -18,8 +18,8 @@ loop-k-init c =
     let a = c.args in
     (omega (arith, c.requires.0), rw (from_first a.from.now a.i a.n) refl)
 
-pub put_on-requires : goal.put_on-requires
-put_on-requires c =
+pub add_on-requires : goal.add_on-requires
+add_on-requires c =
     let a = c.args in
     let long : length a.table.now ≡ 96 = search rules in
     let one = nth_in a.from.now a.i a.n c.loop-k.k c.requires.1 (omega arith) in (
@@ -34,8 +34,8 @@ loop-k-preserved c =
     let l = c.loop-k in
     let s = sub_of a.table.now in
     let count = one_more l.kept (on_atom s (atom_at stored a.from.now (a.i + l.k * 7))) in (
-      omega (arith, l.invariant.0, ap length c.put_on.ensures, count),
-      l.invariant.1 ∙ put_more s l.kept _ _ _ _ l.k (omega arith) c.put_on.ensures,
+      omega (arith, l.invariant.0, ap length c.add_on.ensures, count),
+      l.invariant.1 ∙ put_more s l.kept _ _ _ _ l.k (omega arith) c.add_on.ensures,
     )
 
 pub returns : goal.returns

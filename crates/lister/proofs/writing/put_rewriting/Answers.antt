@@ -2,14 +2,14 @@
 -- whole.
 use mathlib.Core.Path.{ap, ◌∙◌}
 use Rattle.covering.specs.Form.{form}
-use Rattle.covering.specs.Buffer.{held_in}
-use Rattle.covering.specs.Buffer.{record_room}
+use Rattle.covering.specs.Buffer.{held_in, record_room}
 use Rattle.covering.specs.Record.{stored}
 use Rattle.lister.proofs.writing.put_rewriting.Goals as goal
 
+pub in_form-requires : goal.in_form-requires
+in_form-requires c = c.whole.invariant.sound
+
 pub returns : goal.returns
 returns c =
-    c.copy_from_slice.ensures.after
-    ∙ c.formed.invariant.rest
-    ∙ ap (held_in stored record_room)
-    (c.formed.view_is ∙ c.in_form-formed.ensures ∙ ap form (c.lent.ensures ∙ c.replaced-whole.ensures))
+    c.in_form.ensures
+    ∙ ap (λ Q. held_in stored record_room (form Q)) (c.whole.view_is ∙ c.replaced-whole.ensures)
