@@ -1,6 +1,7 @@
 // Records as the code has them: one that is lent where it stands, and one of its own, in 85 bytes. In a clause each is
 // its question.
 ghost use Rattle.std.specs.Prelude.{◌≡◌, [], length};
+ghost use mathlib.Core.Path.{sym};
 ghost use Rattle.covering.specs.Term.{Question};
 ghost use Rattle.covering.specs.Record.{stored, question_of, SoundRecord};
 ghost use Rattle.covering.specs.Buffer.{held_in, record_room};
@@ -33,7 +34,7 @@ impl<'a> Record<'a> {
 }
 
 // A sound record at the front of 85 bytes, the rest 255.
-#[derive(Drop)]
+#[derive(Clone, Copy)]
 pub struct Held {
     pub bytes: [u8; RECORD],
 }
@@ -44,6 +45,11 @@ impl Model for Held {
     ghost view = { λ r. question_of stored r.bytes };
 
     ghost invariant = { λ r. HeldRecord r.bytes };
+
+    // the question has all of its bytes
+    ghost inverse = { λ A. record { bytes = held_in stored record_room A } };
+
+    ghost inverse_ok = { λ r h i. record { bytes = sym h.rest i } };
 }
 
 // The bytes of a record with no atom yet.
