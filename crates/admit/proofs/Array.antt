@@ -104,7 +104,7 @@ module _ {W : List ℕ} {e : Extent} (w : Working W e) where
   abbrev pub others : ℕ
   others = e.count - e.front
 
-  parts_stand : Standing W first_at e.front × Standing W (ending W first_at e.front) (e.count - e.front)
+  pub parts_stand : Standing W first_at e.front × Standing W (ending W first_at e.front) (e.count - e.front)
   parts_stand = standing_split W first_at e.front others (subst (Standing W first_at) whole stands_all)
 
   parts_are : held_from W first_at e.count
@@ -112,7 +112,7 @@ module _ {W : List ℕ} {e : Extent} (w : Working W e) where
   parts_are = ap (held_from W first_at) whole ∙ members_split W first_at e.front others
 
   -- the others stand where they stood when the explored ones are through
-  others_stand : (P : Question) {X : List ℕ} {a : Moved} → Remain W first_at first_at e.front P X a
+  pub others_stand : (P : Question) {X : List ℕ} {a : Moved} → Remain W first_at first_at e.front P X a
       → Standing X a.from (e.count - e.front)
   others_stand P {X} {a} k =
       standing_same W X a.from others k.after

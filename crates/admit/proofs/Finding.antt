@@ -64,7 +64,7 @@ module _ (f : Atom → Option Part) (B : List ℕ) (k w : ℕ) where
   maps_miss h e = maps_next h ∙ else_none (f (atom_at stored B (1 + k * 7))) _ e
 
 -- the first map of a question with an atom is that of the first candidate that serves
-map_one : (M C : List ℕ) → 1 ≤ get_or M 0 0
+pub map_one : (M C : List ℕ) → 1 ≤ get_or M 0 0
     → first_map (question_of stored M) (question_of stored C)
     ≡ first_of (found_on (question_of stored M) (question_of stored C) nowhere) (atoms_at stored C (1 + 0 * 7) (get_or C 0 0 - 0))
 map_one M C s =
@@ -81,7 +81,7 @@ map_one M C s =
     split = question_at_lem stored M refl ∙ atoms_more stored M 1 (get_or M 0 0) s
 
 -- a question without atoms covers all, and no variable goes anywhere
-map_none : (M C : List ℕ) → get_or M 0 0 ≡ 0 → first_map (question_of stored M) (question_of stored C) ≡ some nowhere
+pub map_none : (M C : List ℕ) → get_or M 0 0 ≡ 0 → first_map (question_of stored M) (question_of stored C) ≡ some nowhere
 unfolding first_map find_map
 map_none M C e =
     ap (λ (A : Question). first_map A (question_of stored C)) (question_at_lem stored M refl ∙ atoms_none stored M 1 (get_or M 0 0) e)
@@ -94,7 +94,7 @@ on_nowhere M P b m left r e s =
     searched_as _ _ _ left r (ap (λ q. found_on (question_of stored M) P q b) (part_nowhere 96))
     (subst (λ x. Searched (found_on (question_of stored M) P (part_of x) b) x left r) e s)
 
-found_here : {o : Option Part} {m left : List ℕ} {r : Bool} → Searched o m left r → is_some o ≡ r
+pub found_here : {o : Option Part} {m left : List ℕ} {r : Bool} → Searched o m left r → is_some o ≡ r
 found_here {o} {m} {left} {r} s = sym (said_yes r left o s.finds)
 
 -- The candidates of the record C for the member M, of which k are asked: the map is as it came, and the first map is that

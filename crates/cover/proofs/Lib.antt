@@ -7,6 +7,8 @@ pub mod Rest
 pub mod Maps
 pub mod Sent
 pub mod Meeting
+-- the same of an atom's places where they stand among other bytes
+pub mod SentFrom
 pub mod Ahead
 pub mod SearchSteps
 pub mod Turns

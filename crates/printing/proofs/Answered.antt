@@ -28,7 +28,7 @@ use Rattle.exploration.proofs.OfBook.{members_most, explored_allowed, stored_fit
 use Rattle.exploration.proofs.UnionBytes.{count_read, offset_read, union_stands, Written}
 use Rattle.exploration.proofs.Refused.{refuses_exactly}
 use Rattle.exploration.proofs.Given.{Whole, kind, members_are, explored_is, the_bytes, same_length, refused_exactly}
-use Rattle.exploration.proofs.Given.{whole_given, member_written}
+use Rattle.exploration.proofs.Given.{whole_given, member_written, place_most}
 use Rattle.printing.specs.Printed.{printed}
 use Rattle.covering.specs.Put.{Puts}
 use Rattle.printing.specs.Answer.{text_size, lines_of}
@@ -126,16 +126,8 @@ module _ {book out : List ℕ} {number place : ℕ} {after : List ℕ} (given : 
           fits
           (λ M m. member_few book w.sound (kind given complete M (in_run M m)))
 
-      -- what `print` asks, of a text with room for the longest, and what it prints of it
+      -- what `print` prints
       module _ (answers : ℕ) (is : answers ≡ answers_of book) where
-        pub asked : (text : Text) → text.end + text_size ≤ length text.room.now → UnionStands answers after
-            × HasRoom (printed (union (members_of new_places answers after) (explored_of after))) text
-        asked text roomy =
-            subst
-            (λ (a : ℕ).
-            UnionStands a after × HasRoom (printed (union (members_of new_places a after) (explored_of after))) text)
-            (sym is) (union_there, omega (arith, union_fits))
-
         pub union_answered : {t u : Text} → Adds (printed (union (members_of new_places answers after) (explored_of after))) t u
             → Adds (printed (result book output_size)) t u
         union_answered p =
@@ -176,6 +168,23 @@ module _ {book out : List ℕ} {number place : ℕ} {after : List ℕ} (given : 
                 arith,
                 ap₂ (λ (a n : ℕ). length (printed (result_in a n place after))) (is complete) complete,
               )
+
+    -- so there is what `print` asks, of a text with room for the longest
+    pub asked : (complete : number ≡ 0) (answers : ℕ) → answers ≡ answers_of book
+        → (text : Text) → text.end + text_size ≤ length text.room.now → UnionStands answers after
+        × HasRoom (printed (union (members_of new_places answers after) (explored_of after))) text
+    asked complete answers is text roomy =
+        let whole = printable answers (λ _. is) (omega arith) (omega (arith, place_most given complete)) text roomy in (
+          whole.stands complete,
+          subst (λ (n : ℕ). HasRoom (printed (result_in answers n place after)) text) complete whole.fits,
+        )
+
+    -- and what `print_refusal` asks
+    pub refusal_asked : 1 ≤ number → number < 256 → place < 2 ^ 64
+        → (text : Text) → text.end + text_size ≤ length text.room.now → HasRoom (printed (refusal number place)) text
+    refusal_asked one small wide text roomy =
+        subst (λ (r : Result). HasRoom (printed r) text) (in_refusal 0 number place after one)
+        (printable 0 (λ complete. absurd (omega arith)) small wide text roomy).fits
 
     -- a book that is not refused is sound
     pub complete_sound : number ≡ 0 → SoundBook book

@@ -12,6 +12,10 @@ use Rattle.covering.specs.Term.{Term, var, con, Atom, Question}
 use Rattle.covering.specs.Asking.{answer_relation, asking}
 use Rattle.covering.specs.Record.{stored, is_relation, TermFits, AtomFits, Fits}
 use Rattle.covering.proofs.Bytes.{relation_cases}
+use Rattle.reading.specs.declared.Reason.{Reason}
+use Rattle.reading.specs.declared.Reason.TheVariants.{ShortOutput, ShortBook, OutsideTable, WrongOffset, WrongRelation, WrongRule}
+use Rattle.reading.specs.declared.Reason.TheVariants.{WrongByte, TooLong, NoRoom, NoneLeft, LooseAnswer, NoOldForm}
+use Rattle.reading.specs.Told.{number_of}
 use Rattle.exploration.specs.Answer.{union, refusal}
 use Rattle.printing.specs.Printed.{ascii, marked, separated, term_text, relation_text, atom_text, member_line, line}
 use Rattle.printing.specs.Printed.{printed, always_text}
@@ -124,3 +128,18 @@ refusal_most n p small fits =
     let a = decimal_most 2 n (omega arith) in
     let b = decimal_most 19 p (omega arith) in
     omega (arith, line_length (ascii "refused ") n (ascii " at ") p)
+
+-- a reason's number has that width
+pub number_small : (r : Reason) → number_of r < 256
+number_small ShortOutput = omega arith
+number_small ShortBook = omega arith
+number_small OutsideTable = omega arith
+number_small WrongOffset = omega arith
+number_small WrongRelation = omega arith
+number_small WrongRule = omega arith
+number_small WrongByte = omega arith
+number_small TooLong = omega arith
+number_small NoRoom = omega arith
+number_small NoneLeft = omega arith
+number_small LooseAnswer = omega arith
+number_small NoOldForm = omega arith

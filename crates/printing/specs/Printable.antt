@@ -1,4 +1,5 @@
--- What `print` prints, and what it asks: a number, a place and an output that say a result, and room for its lines.
+-- What `print` and `print_refusal` print, and what they ask: a number, a place and an output that say a result, and room
+-- for its lines.
 use Rattle.std.specs.Prelude.{◌≡◌, List, [], ℕ, zero, suc, ◌≤◌, length}
 use Rattle.covering.specs.Record.{new_places}
 use Rattle.reading.specs.Word.{word}
@@ -27,7 +28,7 @@ pub record UnionStands (answers : ℕ) (out : List ℕ) : Type 0 where
   pub header : 8 ≤ length out
   pub members : WrittenAt new_places answers out (word out 4) (word out 0)
 
--- what a text has room for
+-- what a text has room for: `print` asks it at the number 0, `print_refusal` at a refusal's
 pub record Printable (answers number place : ℕ) (out : List ℕ) (text : Text) : Type 0 where
   pub stands : number ≡ 0 → UnionStands answers out
   pub fits : HasRoom (printed (result_in answers number place out)) text

@@ -47,7 +47,7 @@ fn print(output: &[u8], answers: u8, text: &mut Text)
 
 // Prints a refusal.
 fn print_refusal(refused: Refused, text: &mut Text)
-    requires { text.old.end + text_size ≤ length text.old.room.now }
+    requires { HasRoom (printed (refusal (number_of refused.reason) refused.place)) text.old }
     ensures { Adds (printed (refusal (number_of refused.reason) refused.place)) text.old text.new }
 {
     let number = u8::from(refused.reason);

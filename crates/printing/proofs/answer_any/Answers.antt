@@ -7,6 +7,7 @@ use Rattle.reading.proofs.NewCopy.{copy_given, copy_refused}
 use Rattle.exploration.specs.Answer.{refusal}
 use Rattle.printing.specs.Printed.{printed}
 use Rattle.printing.proofs.Adding.{adds_as}
+use Rattle.printing.proofs.Longest.{number_small, refusal_most}
 use Rattle.printing.proofs.Answered.{answered_refusal, answered_copy}
 use Rattle.printing.proofs.answer_any.Goals as goal
 
@@ -24,6 +25,11 @@ pub returns-in-Ok : goal.returns-in-Ok
 returns-in-Ok c =
     let g = copy_given c.args.book.now _ c.in-Ok.ensures (omega arith) refl in
     answered_copy c.args.book.now _ g.sound g.copy.sound g.copy.means c.answer_new.ensures
+
+pub print_refusal-requires : goal.print_refusal-requires
+print_refusal-requires c =
+    let r = c.in-Err.refused in
+    omega (arith, refusal_most _ r.place (number_small r.reason) (omega arith))
 
 pub returns-in-Err : goal.returns-in-Err
 returns-in-Err c =
