@@ -1,5 +1,5 @@
 // Terms as bytes: the rule's variables moved up by 48, and what stands for a term's class.
-ghost use Rattle.std.specs.Prelude.{◌≡◌, ◌≤◌};
+ghost use Rattle.std.specs.Prelude.{◌≡◌, ◌≤◌, length};
 ghost use Rattle.covering.specs.Term.{on_term};
 ghost use Rattle.covering.specs.Record.{term_of};
 ghost use Rattle.unification.specs.Step.{up};
@@ -26,7 +26,8 @@ pub fn moved(u: u8) -> u8
 }
 
 // The term that stands for t's class.
-pub fn stands_for(table: &[u8; 96], t: u8) -> u8
+pub fn stands_for(table: &[u8], t: u8) -> u8
+    requires { length table.now ≡ 96 }
     ensures { term_of result ≡ look (classes_of table.now) (term_of t) }
 {
     if t < 96 {

@@ -36,8 +36,8 @@ fn put_for(x: u8, v: u8, b: u8) -> u8
 }
 
 // Wherever the variable v stands for a class, b stands for it from now on.
-fn replaced(table: &mut [u8; 96], v: u8, b: u8)
-    requires { v < 128 }
+fn replaced(table: &mut [u8], v: u8, b: u8)
+    requires { (length table.old ≡ 96) × (v < 128) }
     ensures { classes_of table.new ≡ map (point v (term_of b)) (classes_of table.old) }
 {
     // By its number, which the law of each entry speaks of; `iter_mut` is no plainer.
@@ -47,7 +47,8 @@ fn replaced(table: &mut [u8; 96], v: u8, b: u8)
 }
 
 // The classes that a and b stand for become one, a constant standing for it; two constants are never one.
-fn join(table: &mut [u8; 96], a: u8, b: u8) -> bool
+fn join(table: &mut [u8], a: u8, b: u8) -> bool
+    requires { length table.old ≡ 96 }
     ensures { merged result table.new ≡ join_table (classes_of table.old) (term_of a) (term_of b) }
 {
     if a == b {
@@ -66,10 +67,11 @@ fn join(table: &mut [u8; 96], a: u8, b: u8) -> bool
 
 // The used places of the question from i on are put with those of the head from k on, which are moved up: as many, each
 // with its own.
-fn join_places(question: &[u8], book: &[u8], i: usize, k: usize, table: &mut [u8; 96]) -> bool
+fn join_places(question: &[u8], book: &[u8], i: usize, k: usize, table: &mut [u8]) -> bool
     requires { (i + 6 ≤ length question.now)
         × (k + 6 ≤ length book.now)
-        × T (used_first in_book book.now k 6) }
+        × T (used_first in_book book.now k 6)
+        × (length table.old ≡ 96) }
     ensures { merged result table.new
         ≡ unify_table
         (place_pairs (args_at question.now i 6) (map (on_term (up 48)) (args_at book.now k 6)))
@@ -94,10 +96,11 @@ fn join_places(question: &[u8], book: &[u8], i: usize, k: usize, table: &mut [u8
 }
 
 // The question atom at i is put on the head atom at k of the book. Atoms of two relations cost two bytes read.
-pub fn join_atoms(question: &[u8], book: &[u8], i: usize, k: usize, table: &mut [u8; 96]) -> bool
+pub fn join_atoms(question: &[u8], book: &[u8], i: usize, k: usize, table: &mut [u8]) -> bool
     requires { (i + 7 ≤ length question.now)
         × (k + 7 ≤ length book.now)
-        × T (is_atom in_book book.now k) }
+        × T (is_atom in_book book.now k)
+        × (length table.old ≡ 96) }
     ensures { merged result table.new
         ≡ unify_table
         (atom_pairs (atom_at stored question.now i) (on_atom (up 48) (atom_at stored book.now k)))

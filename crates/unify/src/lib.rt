@@ -1,6 +1,7 @@
 // Unification: classes of terms, put together as a choice requires, and whether a choice is valid. The question is a
 // member record in form; the rule stands in its book. The rule's variables are moved up by 48, above the question's, so
 // classes are over 96 variables: 96 bytes, at each variable's number the byte of the term that stands for its class.
+// They are lent as a slice: who has them in a part of a buffer lends that part.
 #![tactic(auto)]
 
 ghost use Rattle.std.specs.Prelude.{◌+◌, ◌*◌, ◌≤◌, length};

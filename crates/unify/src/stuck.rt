@@ -18,7 +18,8 @@ use crate::byte::{moved, stands_for};
 use records::stands_in;
 
 // Whether an existential variable other than u stands for the class of t.
-fn tied_to(rule: &Rule<'_>, table: &[u8; 96], t: u8, u: u8) -> bool
+fn tied_to(rule: &Rule<'_>, table: &[u8], t: u8, u: u8) -> bool
+    requires { length table.now ≡ 96 }
     ensures { result ≡ true
         → TiedTo
         (tabled (classes_of table.now))
@@ -48,8 +49,8 @@ fn tied_to(rule: &Rule<'_>, table: &[u8; 96], t: u8, u: u8) -> bool
 
 // Whether a term in the used places of the question from i on is in the class of an existential variable: then the atom
 // cannot be left.
-fn tied_places(question: &[u8], rule: &Rule<'_>, table: &[u8; 96], i: usize) -> bool
-    requires { i + 6 ≤ length question.now }
+fn tied_places(question: &[u8], rule: &Rule<'_>, table: &[u8], i: usize) -> bool
+    requires { (length table.now ≡ 96) × (i + 6 ≤ length question.now) }
     ensures { result ≡ true
         → (t : Term)
         × (t ∈ args_at question.now i 6)
@@ -73,8 +74,9 @@ fn tied_places(question: &[u8], rule: &Rule<'_>, table: &[u8; 96], i: usize) -> 
 
 // Whether such a term would meet another term than that variable, were the places of the question from i on put with
 // those of the head from k on: then the atom cannot be sent there.
-fn barred_places(question: &[u8], rule: &Rule<'_>, table: &[u8; 96], i: usize, k: usize) -> bool
-    requires { (i + 6 ≤ length question.now)
+fn barred_places(question: &[u8], rule: &Rule<'_>, table: &[u8], i: usize, k: usize) -> bool
+    requires { (length table.now ≡ 96)
+        × (i + 6 ≤ length question.now)
         × (k + 6 ≤ length rule.now.book.now)
         × T (used_first in_book rule.now.book.now k 6) }
     ensures { result ≡ true
@@ -104,8 +106,9 @@ fn barred_places(question: &[u8], rule: &Rule<'_>, table: &[u8; 96], i: usize, k
 }
 
 // Whether the atom of the question at i cannot be sent to the head atom at k.
-fn is_barred(question: &[u8], rule: &Rule<'_>, table: &[u8; 96], i: usize, k: usize) -> bool
-    requires { (i + 7 ≤ length question.now)
+fn is_barred(question: &[u8], rule: &Rule<'_>, table: &[u8], i: usize, k: usize) -> bool
+    requires { (length table.now ≡ 96)
+        × (i + 7 ≤ length question.now)
         × (k + 7 ≤ length rule.now.book.now)
         × T (is_atom in_book rule.now.book.now k) }
     ensures { result ≡ true
@@ -122,8 +125,9 @@ fn is_barred(question: &[u8], rule: &Rule<'_>, table: &[u8; 96], i: usize, k: us
 }
 
 // Whether it can neither be left nor sent.
-fn is_stuck(question: &[u8], rule: &Rule<'_>, table: &[u8; 96], i: usize) -> bool
+fn is_stuck(question: &[u8], rule: &Rule<'_>, table: &[u8], i: usize) -> bool
     requires { AtomsIn in_book rule.now.book.now rule.now.parts.head rule.now.parts.heads
+        × (length table.now ≡ 96)
         × (i + 7 ≤ length question.now) }
     ensures { result ≡ true
         → Stuck
@@ -145,8 +149,9 @@ fn is_stuck(question: &[u8], rule: &Rule<'_>, table: &[u8; 96], i: usize) -> boo
 }
 
 // Whether one of the n atoms of the question from i on is stuck.
-pub fn some_stuck(question: &[u8], rule: &Rule<'_>, table: &[u8; 96], i: usize, n: usize) -> bool
+pub fn some_stuck(question: &[u8], rule: &Rule<'_>, table: &[u8], i: usize, n: usize) -> bool
     requires { AtomsIn in_book rule.now.book.now rule.now.parts.head rule.now.parts.heads
+        × (length table.now ≡ 96)
         × (i + n * 7 ≤ length question.now) }
     ensures { result ≡ true
         → (a : Atom)

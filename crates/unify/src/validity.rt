@@ -15,7 +15,8 @@ use crate::byte::{moved, shifted, stands_for};
 use records::stands_in;
 
 // Whether the term t is z itself or is in another class than the one that rep stands for.
-fn is_apart(table: &[u8; 96], t: u8, z: u8, rep: u8) -> bool
+fn is_apart(table: &[u8], t: u8, z: u8, rep: u8) -> bool
+    requires { length table.now ≡ 96 }
     ensures { result
         ≡ (eq_term (term_of t) (term_of z)
         || not (eq_term (on_term (tabled (classes_of table.now)) (term_of t)) (term_of rep))) }
@@ -27,10 +28,11 @@ fn is_apart(table: &[u8; 96], t: u8, z: u8, rep: u8) -> bool
 }
 
 // Whether, of the terms in the used places from i on, moved up by shift, none but z is in the class of rep.
-fn apart_places(s: &[u8], i: usize, shift: u8, z: u8, rep: u8, table: &[u8; 96]) -> bool
+fn apart_places(s: &[u8], i: usize, shift: u8, z: u8, rep: u8, table: &[u8]) -> bool
     requires { (i + 6 ≤ length s.now)
         × (shift ≤ 48)
-        × T (used_first in_book s.now i 6) }
+        × T (used_first in_book s.now i 6)
+        × (length table.now ≡ 96) }
     ensures { result
         ≡ all
         (λ t. eq_term t (term_of z) || not (eq_term (on_term (tabled (classes_of table.now)) t) (term_of rep)))
@@ -51,8 +53,8 @@ fn apart_places(s: &[u8], i: usize, shift: u8, z: u8, rep: u8, table: &[u8; 96])
 
 // The same of the terms of the n atoms from i on. A `for` and not `all`: that an atom's used places come first, the check
 // gives a loop's turn, but not a closure's.
-fn apart_atoms(s: &[u8], i: usize, n: usize, shift: u8, z: u8, rep: u8, table: &[u8; 96]) -> bool
-    requires { AtomsIn in_book s.now i n × (shift ≤ 48) }
+fn apart_atoms(s: &[u8], i: usize, n: usize, shift: u8, z: u8, rep: u8, table: &[u8]) -> bool
+    requires { AtomsIn in_book s.now i n × (shift ≤ 48) × (length table.now ≡ 96) }
     ensures { result
         ≡ all
         (λ t. eq_term t (term_of z) || not (eq_term (on_term (tabled (classes_of table.now)) t) (term_of rep)))
@@ -68,10 +70,11 @@ fn apart_atoms(s: &[u8], i: usize, n: usize, shift: u8, z: u8, rep: u8, table: &
 
 // Whether no constant stands for the class of the moved term z, and no term of the left atoms, the body or the head is
 // in it but z.
-fn is_safe(left: &[u8], rule: &Rule<'_>, table: &[u8; 96], z: u8) -> bool
+fn is_safe(left: &[u8], rule: &Rule<'_>, table: &[u8], z: u8) -> bool
     requires { AtomsIn in_book left.now 1 (get_or left.now 0 0)
         × AtomsIn in_book rule.now.book.now rule.now.parts.body rule.now.parts.bodies
-        × AtomsIn in_book rule.now.book.now rule.now.parts.head rule.now.parts.heads }
+        × AtomsIn in_book rule.now.book.now rule.now.parts.head rule.now.parts.heads
+        × (length table.now ≡ 96) }
     ensures { result
         ≡ safe
         (tabled (classes_of table.now))
@@ -96,11 +99,12 @@ fn is_safe(left: &[u8], rule: &Rule<'_>, table: &[u8; 96], z: u8) -> bool
 }
 
 // Whether the head's term u, once moved, is no existential variable or is safe.
-fn is_allowed(left: &[u8], rule: &Rule<'_>, table: &[u8; 96], u: u8) -> bool
+fn is_allowed(left: &[u8], rule: &Rule<'_>, table: &[u8], u: u8) -> bool
     requires { AtomsIn in_book left.now 1 (get_or left.now 0 0)
         × AtomsIn in_book rule.now.book.now rule.now.parts.body rule.now.parts.bodies
         × AtomsIn in_book rule.now.book.now rule.now.parts.head rule.now.parts.heads
-        × (48 ≤ u → 128 ≤ u) }
+        × (48 ≤ u → 128 ≤ u)
+        × (length table.now ≡ 96) }
     ensures { result
         ≡ (not (is_unknown (move 48 (rule_of rule.now.book.now rule.now.parts)) (on_term (up 48) (term_of u)))
         || safe
@@ -121,12 +125,13 @@ fn is_allowed(left: &[u8], rule: &Rule<'_>, table: &[u8; 96], u: u8) -> bool
 }
 
 // The same of each term in the used places of its book from i on.
-fn allowed_places(left: &[u8], rule: &Rule<'_>, table: &[u8; 96], i: usize) -> bool
+fn allowed_places(left: &[u8], rule: &Rule<'_>, table: &[u8], i: usize) -> bool
     requires { AtomsIn in_book left.now 1 (get_or left.now 0 0)
         × AtomsIn in_book rule.now.book.now rule.now.parts.body rule.now.parts.bodies
         × AtomsIn in_book rule.now.book.now rule.now.parts.head rule.now.parts.heads
         × (i + 6 ≤ length rule.now.book.now)
-        × T (used_first in_book rule.now.book.now i 6) }
+        × T (used_first in_book rule.now.book.now i 6)
+        × (length table.now ≡ 96) }
     ensures { result
         ≡ all
         (λ z. not (is_unknown (move 48 (rule_of rule.now.book.now rule.now.parts)) z)
@@ -151,10 +156,11 @@ fn allowed_places(left: &[u8], rule: &Rule<'_>, table: &[u8; 96], i: usize) -> b
 }
 
 // Whether the classes in the table are valid for the left atoms, a count byte and so many atoms, and the rule.
-pub fn is_valid(left: &[u8], rule: &Rule<'_>, table: &[u8; 96]) -> bool
+pub fn is_valid(left: &[u8], rule: &Rule<'_>, table: &[u8]) -> bool
     requires { AtomsIn in_book left.now 1 (get_or left.now 0 0)
         × AtomsIn in_book rule.now.book.now rule.now.parts.body rule.now.parts.bodies
-        × AtomsIn in_book rule.now.book.now rule.now.parts.head rule.now.parts.heads }
+        × AtomsIn in_book rule.now.book.now rule.now.parts.head rule.now.parts.heads
+        × (length table.now ≡ 96) }
     ensures { result
         ≡ valid
         (tabled (classes_of table.now))

@@ -1,5 +1,6 @@
 -- `lister::ahead::are_valid` meets its contract: a rule without existential variables answers with yes, and any other by
 -- the test.
+use borrow.Author.Rules.{rules}
 use mathlib.Core.Path.{sym, ◌∙◌, ap, subst}
 use Rattle.unification.specs.Step.{move, valid}
 use Rattle.unify.specs.Table.{tabled}
@@ -20,7 +21,8 @@ returns-then-not-asked c =
 pub is_valid-requires : goal.is_valid-requires
 is_valid-requires c =
     let r = c.args.asked.now.rule_in in
-    (left_bytes _ c.left.invariant.sound c.left.invariant.rest (subst LeftIn (sym c.left.view_is) c.requires), r.body, r.head)
+    let left = left_bytes _ c.left.invariant.sound c.left.invariant.rest (subst LeftIn (sym c.left.view_is) c.requires) in
+    (left, r.body, r.head, search rules)
 
 pub returns : goal.returns
 returns c =

@@ -1,4 +1,5 @@
 -- `lister::ahead::looks_stuck` meets its contract: it says yes only by the test.
+use borrow.Author.Rules.{rules}
 use native.Mathlib.Omega.{arith}
 use mathlib.Core.Path.{sym}
 use mathlib.Core.Bool.{true≢false}
@@ -16,7 +17,7 @@ overflow_add-passed c = omega (arith, c.args.asked.now.question_in.few)
 pub some_stuck-requires : goal.some_stuck-requires
 some_stuck-requires c =
     let r = c.args.asked.now.rule_in in
-    (r.head, omega (arith, c.args.asked.now.question_in.atoms.fits))
+    (r.head, search rules, omega (arith, c.args.asked.now.question_in.atoms.fits))
 
 pub returns : goal.returns
 returns c = λ told. c.some_stuck.ensures told

@@ -132,6 +132,7 @@ try_digit-join_atoms-requires t c =
       omega (arith, p.builds.asks.atoms.fits, p.more_nonzero.0),
       omega (arith, p.builds.asks.rule.head.fits, p.more_nonzero.1),
       head_sound (trying (c.requires.builds, c.requires.more_nonzero)) (omega arith),
+      search rules,
     )
 
 pub try_digit-returns-then-not-join_atoms : goal.try_digit-returns-then-not-join_atoms

@@ -19,6 +19,7 @@ join_atoms-requires c =
       f.atom.fits,
       omega (arith, f.rule.head.fits, f.small, c.if-d-eq0.false),
       head_sound (digit_tries f) (omega (arith, c.if-d-eq0.false)),
+      f.size,
     )
 
 pub returns : goal.returns

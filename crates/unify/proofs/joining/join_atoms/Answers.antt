@@ -13,7 +13,7 @@ pub returns-then-question-i : goal.returns-then-question-i
 returns-then-question-i c = merged_no _ _ refl ∙ sym (pairs_apart stored _ _ _ _ _ c.if-question-i.true)
 
 pub join_places-requires : goal.join_places-requires
-join_places-requires c = (omega arith, omega arith, atom_used in_book _ _ c.requires.2)
+join_places-requires c = (omega arith, omega arith, atom_used in_book _ _ c.requires.2, c.requires.3)
 
 pub returns : goal.returns
 returns c = c.join_places.ensures ∙ sym (pairs_meet stored _ _ _ _ _ c.if-question-i.false)

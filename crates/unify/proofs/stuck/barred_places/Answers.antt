@@ -1,9 +1,7 @@
 -- `unify::stuck::barred_places` meets its contract. The loop's invariant: the pairs from the j-th place on are among those
 -- of the two atoms, and the head's places are sound.
 use native.Mathlib.Omega.{arith}
-use native.Mathlib.Nat.{add-zero}
-use mathlib.Core.Path.{sym, subst}
-use mathlib.Core.Bool.{true≢false}
+use mathlib.Core.Path.{subst}
 use Rattle.covering.proofs.Bytes.{used_more, term_constant}
 use Rattle.unify.specs.InBytes.{in_book}
 use Rattle.unify.specs.Stuck.{TiedTo}

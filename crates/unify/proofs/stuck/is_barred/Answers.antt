@@ -13,7 +13,7 @@ returns-then-question-i c = λ e. inl c.if-question-i.true
 pub barred_places-requires : goal.barred_places-requires
 barred_places-requires c =
     let p = c.requires in
-    (omega arith, omega arith, atom_used in_book _ _ p.2)
+    (p.0, omega arith, omega arith, atom_used in_book _ _ p.3)
 
 pub returns : goal.returns
 unfolding atom_at

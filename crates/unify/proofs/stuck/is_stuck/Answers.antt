@@ -15,7 +15,7 @@ use Rattle.unify.proofs.StuckBytes.{each_none, each_more}
 use Rattle.unify.proofs.stuck.is_stuck.Goals as goal
 
 pub tied_places-requires : goal.tied_places-requires
-tied_places-requires c = omega arith
+tied_places-requires c = (c.requires.1, omega arith)
 
 pub returns-then-not-tied_places : goal.returns-then-not-tied_places
 returns-then-not-tied_places c = λ e. absurd (true≢false (sym e))
@@ -26,7 +26,7 @@ loop-n-init c = λ f. f
 pub is_barred-requires : goal.is_barred-requires
 is_barred-requires c =
     let p = c.requires in
-    (omega arith, omega (arith, p.0.fits), nth_sound _ _ c.loop-n.n _ (omega arith) p.0.sound)
+    (p.1, omega arith, omega (arith, p.0.fits), nth_sound _ _ c.loop-n.n _ (omega arith) p.0.sound)
 
 pub returns-then-not-is_barred : goal.returns-then-not-is_barred
 returns-then-not-is_barred c = λ e. absurd (true≢false (sym e))

@@ -10,7 +10,7 @@ pub loop-k-init : goal.loop-k-init
 loop-k-init c = rw (from_first c.args.question.now c.args.i c.args.n) (λ x m. m)
 
 pub is_stuck-requires : goal.is_stuck-requires
-is_stuck-requires c = (c.requires.0, omega arith)
+is_stuck-requires c = (c.requires.0, c.requires.1, omega arith)
 
 pub returns-then-is_stuck : goal.returns-then-is_stuck
 returns-then-is_stuck c =

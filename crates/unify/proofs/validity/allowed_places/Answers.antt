@@ -18,7 +18,7 @@ pub is_allowed-requires : goal.is_allowed-requires
 is_allowed-requires c =
     let a = c.args in
     let u = used_more a.rule.now.book.now a.i c.loop-j.j 6 (omega arith) in_book c.loop-j.invariant.0 c.if-u.false in
-    (c.requires.0, c.requires.1, c.requires.2, term_constant in_book _ u.0)
+    (c.requires.0, c.requires.1, c.requires.2, term_constant in_book _ u.0, c.requires.5)
 
 pub returns-then-not-is_allowed : goal.returns-then-not-is_allowed
 returns-then-not-is_allowed c =

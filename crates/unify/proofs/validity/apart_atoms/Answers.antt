@@ -14,6 +14,7 @@ apart_places-requires c = (
   omega arith,
   omega arith,
   nth_used _ _ c.loop-k.k _ (omega arith) c.requires.0.sound,
+  c.requires.2,
 )
 
 pub returns-then-not-apart_places : goal.returns-then-not-apart_places

@@ -23,7 +23,7 @@ loop-k-init c =
 pub allowed_places-requires : goal.allowed_places-requires
 allowed_places-requires c =
     let p = c.requires in
-    (p.0, p.1, p.2, omega arith, nth_used _ _ c.loop-k.k _ (omega arith) p.2.sound)
+    (p.0, p.1, p.2, omega arith, nth_used _ _ c.loop-k.k _ (omega arith) p.2.sound, p.3)
 
 pub returns-then-not-allowed_places : goal.returns-then-not-allowed_places
 returns-then-not-allowed_places c =
