@@ -1,6 +1,5 @@
 -- `records::copying::copy_atom` meets its contract. The loop's invariant: the relation and the places passed are copied.
 use mathlib.Core.Path.{◌≡◌}
-use Prim.Native.Nat.{◌+◌}
 use lib.ListN.{length}
 use lib.Seq.{paste}
 use Rattle.covering.specs.Record.{holding, atom_at, atom_bytes}
