@@ -1,5 +1,5 @@
 -- An atom's places where they stand among other bytes, in F from i on and in S from k on. The places that the code lends
--- are parts of such bytes, so what `Sent` and `Meeting` say of those, the same is so of these. Assumes nothing.
+-- are parts of such bytes, so what `Sent` and `Meeting` say of those holds of these. Assumes nothing.
 use mathlib.Core.Path.{◌≡◌, refl, sym, ◌∙◌, ap, ap₂, subst}
 use mathlib.Core.Bool.{cond}
 use mathlib.Core.List.{List}
@@ -41,7 +41,9 @@ module _ (m F S : List ℕ) (i k w : ℕ) where
   sent_part zero l = refl
   sent_part (suc j) l =
       ap (λ (n : List ℕ). put n (get_or F (i + j) 0) (get_or S (k + j) 0)) (sent_part j (omega arith))
-      ∙ ap₂ (put (sent_to m (part F i w) (part S k w) j)) (sym (byte F i w j (omega arith))) (sym (byte S k w j (omega arith)))
+      ∙ ap₂ (put (sent_to m (part F i w) (part S k w) j))
+      (sym (byte F i w j (omega arith)))
+      (sym (byte S k w j (omega arith)))
 
   had_part : (j : ℕ) (h : List ℕ) → j ≤ w → HadFrom m F S i k j h → HadBefore m (part F i w) (part S k w) j h
   had_part j h l b = record { room = b.room; had = λ n lt v. go n lt v (byte F i w n (omega arith)) }
