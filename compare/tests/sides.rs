@@ -1,5 +1,6 @@
 //! That an implementation in the process is caught wherever it differs, and how.
 
+use bench::clock;
 use compare::blocks::{each_block, Until};
 use compare::comparison::{answered, Comparison};
 use compare::desk::{answered as answered_pair, Pairs};
@@ -20,7 +21,7 @@ use second::{desk, generate};
 use std::collections::BTreeSet;
 use std::sync::atomic::{AtomicUsize, Ordering};
 use std::sync::Mutex;
-use std::time::{Duration, Instant};
+use std::time::Duration;
 
 /// The second program in a given way.
 fn by(way: Way, book: &[u8], out: &mut [u8]) -> Answered {
@@ -378,15 +379,28 @@ fn what_the_second_program_met_before_it_gave_up_does_not_count() {
     assert!(comparison.seen.count(Behaviour::CopiedToNew) > 0);
 }
 
+/// Takes so much processor time, which is what a limit is of.
+fn busy(millis: u64) {
+    let began = clock::used();
+    while clock::used() - began < millis * 1_000_000 {}
+}
+
 #[test]
 fn a_slow_side_is_caught_if_it_is_the_first() {
-    // The second run, the first one of the patient comparison, is longer than those after it.
-    static RUNS: AtomicUsize = AtomicUsize::new(0);
     let slow = Side {
         run: |book, out| {
-            let wait = if RUNS.fetch_add(1, Ordering::Relaxed) == 1 { 120 } else { 60 };
-            let began = Instant::now();
-            while began.elapsed() < Duration::from_millis(wait) {}
+            busy(60);
+            (PLAIN.run)(book, out)
+        },
+        ..PLAIN
+    };
+    // Within the limit, and longest on the first book: of itself that takes as long in either form.
+    static RUNS: AtomicUsize = AtomicUsize::new(0);
+    let steady = Side {
+        run: |book, out| {
+            if RUNS.fetch_add(1, Ordering::Relaxed) == 0 {
+                busy(8);
+            }
             (PLAIN.run)(book, out)
         },
         ..PLAIN
@@ -397,7 +411,7 @@ fn a_slow_side_is_caught_if_it_is_the_first() {
     let told = told.unwrap_err();
     assert!(told.starts_with("TOO SLOW: 0.0"), "{told}");
     assert!(told.contains("plain Rust on edge book "), "{told}");
-    let sides = [PLAIN, slow];
+    let sides = [steady, slow];
     let mut patient = Comparison::limited(&sides, most);
     assert_eq!(patient.compare_edges(&edges), Ok(()));
     assert_eq!(patient.longest.on(), Some(&edges[0].0));
