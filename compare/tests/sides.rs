@@ -379,7 +379,7 @@ fn what_the_second_program_met_before_it_gave_up_does_not_count() {
     assert!(comparison.seen.count(Behaviour::CopiedToNew) > 0);
 }
 
-/// Takes so much processor time, which is what a limit is of.
+/// Uses so much processor time: that is what is limited.
 fn busy(millis: u64) {
     let began = clock::used();
     while clock::used() - began < millis * 1_000_000 {}
@@ -394,7 +394,8 @@ fn a_slow_side_is_caught_if_it_is_the_first() {
         },
         ..PLAIN
     };
-    // Within the limit, and longest on the first book: of itself that takes as long in either form.
+    // Within the limit, and longest on the first book: without the wait its other form takes as
+    // long.
     static RUNS: AtomicUsize = AtomicUsize::new(0);
     let steady = Side {
         run: |book, out| {
