@@ -416,6 +416,8 @@ fn a_slow_side_is_caught_if_it_is_the_first() {
     let mut patient = Comparison::limited(&sides, most);
     assert_eq!(patient.compare_edges(&edges), Ok(()));
     assert_eq!(patient.longest.on(), Some(&edges[0].0));
+    // of the first side alone: the slow one takes longer than that
+    assert!(patient.longest.seconds() < 0.02);
 }
 
 #[test]
